@@ -1,0 +1,2 @@
+-- The laws of `events`.
+pub mod Laws
