@@ -1,0 +1,3 @@
+-- The definitions that the contracts of `peer_session` and of the crates above it cite.
+pub mod View
+pub mod Sound

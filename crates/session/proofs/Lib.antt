@@ -1,0 +1,2 @@
+-- The laws of the promises.
+pub mod Promises
