@@ -1,9 +1,15 @@
 // The Rust's `SessionState` (peer_session.rs, coordination.rs), by value. The bodies of its unacked messages and of its queued frames lie in the two
 // stores that the caller lends.
 ghost use mathlib.Core.Path.{_≡_};
+ghost use mathlib.Core.List.{[]};
+ghost use Rattle.numbers.specs.Seats.{Holds};
+ghost use Rattle.peer_session.specs.View.{held};
+ghost use Rattle.peer_session.specs.New.{New, nothing, NoMessages, NoFrames, NoHandoff};
 use numbers::Numbers;
 use outbox::Outbox;
+use outbox::Unacked;
 use queue::Queue;
+use queue::Queued;
 use rules::Clock;
 use rules::Policy;
 use rules::ReceiveMode;
@@ -53,5 +59,139 @@ pub struct SessionState {
 impl SessionState {
     pub const MAX_UNACKED: usize = rules::MAX_UNACKED;
 
+    pub const MAX_WAITING_AND_QUEUED: usize = rules::MAX_WAITING_AND_QUEUED;
+
+    pub const MAX_RETRIES: usize = rules::MAX_RETRIES;
+
+    pub const MAX_QUEUED_MESSAGES: usize = rules::MAX_QUEUED_MESSAGES;
+
+    pub const MAX_QUEUED_BYTES: usize = rules::MAX_QUEUED_BYTES;
+
+    pub const MAX_PEER_BODY: usize = rules::MAX_PEER_BODY;
+
+    pub const MAX_REJECT: usize = rules::MAX_REJECT;
+
+    pub const MAX_HANDOFF: usize = rules::MAX_HANDOFF;
+
+    pub const LAST_MESSAGE: u64 = rules::LAST_MESSAGE;
+
+    pub const MESSAGES_END: u64 = rules::MESSAGES_END;
+
+    pub const LAST_REMOTE: u64 = rules::LAST_REMOTE;
+
+    pub const GENERATION_LIMIT: u32 = rules::GENERATION_LIMIT;
+
     pub const OUTBOUND_BYTES: usize = rules::OUTBOUND_BYTES;
+
+    pub const QUEUE_BYTES: usize = rules::QUEUE_BYTES;
+
+    pub const DELIVERY_BYTES: usize = rules::DELIVERY_BYTES;
+
+    pub const EVENT_WORDS: usize = 4096;
+
+    // A new session with these unacked messages, which are neither pending nor unsent.
+    pub fn new(
+        outbox: Outbox,
+        remote: u64,
+        disposition: u8,
+        policy: Policy,
+        reject: RejectBody,
+    ) -> SessionState
+        ensures { λ r. ⌜ New outbox remote disposition policy reject r ⌝ }
+    {
+        SessionState {
+            outbox: outbox,
+            remote: remote,
+            released: remote,
+            queue: no_frames(),
+            waiting: no_numbers(),
+            retry: no_numbers(),
+            clock: Clock {
+                last_replay_at: 0.0,
+                generation: 0,
+                released: 0,
+                persisted: 0,
+            },
+            stage: Stage {
+                disposition: disposition,
+                setup: Setup::None,
+                mode: ReceiveMode::Raw,
+                failed: false,
+            },
+            handoff: no_handoff(),
+            policy: policy,
+            reject: reject,
+        }
+    }
+
+    // What a refused start hands out: message number 0, so that every call refuses it by 3.
+    pub fn none() -> SessionState
+        ensures { λ r. ⌜ held r ≡ nothing ⌝ }
+    {
+        let outbox = no_messages(0);
+        let policy = Policy {
+            gap: 0,
+            messages: 0,
+            bytes: 0,
+            body: 0,
+        };
+        let reject = RejectBody {
+            bytes: [0; 64],
+            len: 0,
+        };
+        SessionState::new(outbox, 0, 0, policy, reject)
+    }
+}
+
+pub fn no_messages(next: u64) -> Outbox
+    ensures { λ r. ⌜ NoMessages next r ⌝ }
+{
+    let blank = Unacked {
+        number: 0,
+        len: 0,
+        pending: false,
+        unsent: false,
+    };
+    Outbox {
+        next: next,
+        records: [blank; 256],
+        count: 0,
+    }
+}
+
+pub fn no_frames() -> Queue
+    ensures { λ r. ⌜ NoFrames r ⌝ }
+{
+    let blank = Queued {
+        number: 0,
+        len: 0,
+        kind: 0,
+    };
+    Queue {
+        records: [blank; 256],
+        count: 0,
+    }
+}
+
+pub fn no_numbers() -> Numbers
+    ensures { λ r. ⌜ Holds [] r ⌝ }
+{
+    Numbers {
+        values: [0; 512],
+        count: 0,
+    }
+}
+
+pub fn no_handoff() -> TerminalHandoff
+    ensures { λ r. ⌜ NoHandoff r ⌝ }
+{
+    TerminalHandoff {
+        body: [0; 4096],
+        len: 0,
+        id: 0,
+        number: 0,
+        sent: false,
+        acknowledged: false,
+        present: false,
+    }
 }

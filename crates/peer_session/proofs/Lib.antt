@@ -1,0 +1,3 @@
+-- The laws of the view, and of a new session.
+pub mod Held
+pub mod Fresh
