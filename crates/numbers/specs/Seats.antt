@@ -1,9 +1,11 @@
 -- Rising arrays of numbers. Assumes nothing.
 use Prim.Native.Nat.{ℕ, _+_, _≤_}
 use mathlib.Core.Path.{_≡_}
-use mathlib.Core.List.{List, [], _∷_, _++_, map}
+use mathlib.Core.Bool.{Bool}
+use mathlib.Core.List.{List, map}
 use lib.ListN.{length, take}
-use lib.Dec.{leb, ltb}
+use lib.Dec.{ltb}
+use Rattle.stores.specs.Fronts.{front}
 use Rattle.rules.specs.Lists.{if_then_else_, kept}
 use Rattle.rules.specs.Commits.{releases-ack}
 use Rattle.rules.specs.Events.{send-ack}
@@ -25,10 +27,16 @@ pub record Holds (ns : List ℕ) (r : Numbers) : Type 0 where
   pub held : inUse r ≡ ns
   pub exact : ExactNumbers r
 
--- the index of the first that is not below n, among numbers from index i on
-unfoldable pub seatOf : ℕ → ℕ → List ℕ → ℕ
-seatOf n i [] = i
-seatOf n i (x ∷ xs) = let t = seatOf n (i + 1) xs in if leb n x then i else t
+abbrev pub under : ℕ → ℕ → Bool
+under n k = ltb k n
+
+-- the index of the first that is not below n
+unfoldable pub seatOf : ℕ → List ℕ → ℕ
+seatOf n ns = front (under n) ns
+
+-- how far a cursor goes on with an element that stays, or goes
+abbrev pub step : Bool → ℕ
+step t = if t then 1 else 0
 
 -- what a commit releases: acks up to a number are listed, later ones stay
 pub record ReleasesAcks (upto : ℕ) (v : Numbers) (l : List ℕ) (n : ℕ) (r : Released) (l′ : List ℕ) : Type 0 where
