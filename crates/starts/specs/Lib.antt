@@ -1,0 +1,2 @@
+-- The promise of a start.
+pub mod Started
