@@ -1,2 +1,3 @@
 -- The laws of the promises.
 pub mod Promises
+pub mod Queries

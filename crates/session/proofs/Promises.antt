@@ -6,6 +6,7 @@ use Prim.Native.Nat.{ℕ, _+_, _-_, _*_, _≤_, max}
 use native.Mathlib.Omega.{arith}
 use native.Mathlib.Nat.{zero-add}
 use lib.ListN.{length, take, drop, replicate, take-append-drop}
+use borrow.Author.Tests.{eq-eqb}
 use Rattle.stores.specs.Placed.{placed}
 use Rattle.rules.specs.declared.Answer.{Answer}
 use Rattle.rules.specs.declared.Answer.the-variants.{Refused}
@@ -16,6 +17,7 @@ use Rattle.rules.specs.State.{Unacked, State, body-of, frame-body}
 use Rattle.rules.specs.Events.{Event, handed, listed}
 use Rattle.rules.specs.Progress.{Outcome, outcome}
 use Rattle.rules.specs.Calls.{Call, step}
+use Rattle.rules.proofs.Lists.{length-packed}
 use Rattle.rules.specs.Buffers.{Lent, Takes, taken-by, short, wrong-code, over, flat, list-after, delivery-after, repacked, outbound-end, queue-end, outbound-reach, queue-reach, outbound-after, queue-after, where-taken, lent-after}
 use Rattle.events.specs.Written.{ListedIn}
 use Rattle.peer_session.specs.declared.SessionState.{SessionState}
@@ -87,3 +89,45 @@ pub follows-is : {c : Call} {t : State} {l : Lent} {r : SessionState} {a : Answe
 unfolding follows lent-after list-after delivery-after outbound-after queue-after
 follows-is {c} {t} {l} {r} {a} {n} {l′} long f =
     rw (long, f .does) (exit-cong (f .session) refl (f .count) (lent-cong (f .list) (f .delivery) (f .outbound) (f .queue)))
+
+-- ---- what lies in the buffers as it should: each store begins with its bodies
+
+pub record Stored (t : State) (o q : Bytes) : Type 0 where
+  pub outbound : packed body-of (t .outbox .unacked) ≡ take (outbound-end t) o
+  pub queue : packed frame-body (t .inbox .queue) ≡ take (queue-end t) q
+
+pub outbound-same : {t : State} {o q : Bytes} → Stored t o q → repacked (outbound-end t) (packed body-of (t .outbox .unacked)) o ≡ o
+outbound-same {t} {o} h = repacked-same (outbound-end t) (packed body-of (t .outbox .unacked)) o (h .outbound) (length-packed body-of (t .outbox .unacked))
+
+pub queue-same : {t : State} {o q : Bytes} → Stored t o q → repacked (queue-end t) (packed frame-body (t .inbox .queue)) q ≡ q
+queue-same {t} {o} {q} h = repacked-same (queue-end t) (packed frame-body (t .inbox .queue)) q (h .queue) (length-packed frame-body (t .inbox .queue))
+
+-- nothing was sent and dropped where no number was given
+pub reach-same : (s t : State) → s .outbox .next ≡ t .outbox .next → outbound-reach s t ≡ outbound-end s
+unfolding outbound-reach
+reach-same s t e = rw (eq-eqb (s .outbox .next) (t .outbox .next) e)
+
+same-taken : (b : Bool) (x y : List ℕ) → x ≡ y → y ≡ where-taken b x y
+same-taken true x y e = sym e
+same-taken false x y e = refl
+
+-- a refusal that changes nothing
+pub refuses : {c : Call} {s : SessionState} {l : Lent} {x : Refusal} (t : State) → held s ≡ encode t → Stored t (l .outbound) (l .queue)
+    → queue-reach c t ≡ queue-end t → step c t ≡ outcome t (Refused x) [] → Follows c t l s (Refused x) 0 l
+unfolding listed flat packed
+refuses {c} {s} {l} {x} t h st r e =
+    record {
+      left = t;
+      events = [];
+      does = e;
+      session = h;
+      count = refl;
+      list = same-taken (taken-by c .list) (l .list) (l .list) refl;
+      delivery = same-taken (taken-by c .delivery) (l .delivery) (l .delivery) refl;
+      outbound =
+          same-taken (taken-by c .outbound) _ (l .outbound)
+          (ap (λ (n : ℕ). repacked n (packed body-of (t .outbox .unacked)) (l .outbound)) (reach-same t t refl) ∙ outbound-same st);
+      queue =
+          same-taken (taken-by c .queue) _ (l .queue)
+          (ap (λ (n : ℕ). repacked n (packed frame-body (t .inbox .queue)) (l .queue)) r ∙ queue-same st);
+    }

@@ -3,6 +3,7 @@ use Prim.Native.Nat.{ℕ, _≤_}
 use mathlib.Core.Path.{_≡_}
 use mathlib.Core.Bool.{Bool, true, false}
 use mathlib.Core.List.{List}
+use mathlib.Core.Option.{Option, none, some}
 use lib.ListN.{length}
 use Rattle.rules.specs.declared.Answer.{Answer}
 use Rattle.rules.specs.declared.Answer.the-variants.{Refused}
@@ -12,12 +13,17 @@ use Rattle.rules.specs.Lists.{Bytes, if_then_else_}
 use Rattle.rules.specs.Limits.{outbound-bytes, queue-bytes}
 use Rattle.rules.specs.State.{State}
 use Rattle.rules.specs.Calls.{Call, step}
+use Rattle.rules.specs.Queries.{terms-in}
+use Rattle.rules.specs.declared.Setup.{Setup}
+use Rattle.rules.specs.declared.Terms.{Terms}
 use Rattle.rules.specs.Buffers.{Lent, taken-by, short, wrong-code, lent-after}
 use Rattle.peer_session.specs.declared.SessionState.{SessionState}
 use Rattle.peer_session.specs.View.{Held, held, encode, stateOf}
 use Rattle.peer_session.specs.Sound.{soundOf}
 use Rattle.session.specs.declared.Returned.{Returned}
 use Rattle.session.specs.declared.Told.{Told}
+use Rattle.session.specs.declared.ChannelTerms.{ChannelTerms}
+use Rattle.session.specs.declared.ChannelTerms.the-variants.{Waiting, NotWaiting}
 
 -- ---- what a caller finds after a call
 
@@ -77,3 +83,19 @@ abbrev pub Answered : Call → SessionState → Answer → Type 0
 Answered c s a =
     (l : List ℕ) (d o q : Bytes) → outbound-bytes ≤ length o → queue-bytes ≤ length q
     → exit (held s) a 0 (lent l d o q) ≡ promise c s (lent l d o q)
+
+-- ---- a refusal that changes nothing, as a value
+
+pub record Turned (s : SessionState) (x : Refusal) (r : Returned) : Type 0 where
+  pub session : r .session ≡ s
+  pub answer : r .answer ≡ Refused x
+  pub events : r .events ≡ 0
+
+-- ---- the terms of a session that waits
+
+abbrev pub offered : Option Terms → ChannelTerms
+offered none = NotWaiting
+offered (some t) = Waiting t
+
+abbrev pub termsIn : Setup → ChannelTerms
+termsIn setup = offered (terms-in setup)
