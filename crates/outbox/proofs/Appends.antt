@@ -7,7 +7,8 @@ use native.Mathlib.Omega.{arith}
 use native.Mathlib.Nat.{zero-add, sub-zero}
 use lib.ListN.{length, take, drop, set, replicate, length-append, length-set, length-replicate}
 use lib.Seq.{take-append-seam, length-take-le}
-use Rattle.stores.specs.Packed.{cut, repacked}
+use Rattle.stores.specs.Packed.{cut}
+use Rattle.rules.specs.Buffers.{repacked}
 use Rattle.stores.specs.Placed.{placed}
 use Rattle.stores.proofs.Laws.{length-placed, take-placed-le, drop-placed}
 use Rattle.stores.proofs.Packs.{take-set-snoc, total-snoc, cut-append, cut-same, repacked-grown, repacked-shrunk}

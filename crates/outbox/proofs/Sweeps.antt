@@ -7,7 +7,8 @@ use native.Mathlib.Omega.{arith}
 use native.Mathlib.Nat.{zero-add}
 use lib.ListN.{length, take, drop, getD, set, replicate, length-take, length-drop, length-replicate, length-set, take-append-drop}
 use lib.Seq.{slice, drop-drop, take-append-seam, length-take-le, take-at}
-use Rattle.stores.specs.Packed.{cut, repacked}
+use Rattle.stores.specs.Packed.{cut}
+use Rattle.rules.specs.Buffers.{repacked}
 use Rattle.stores.specs.Placed.{placed}
 use Rattle.stores.proofs.Laws.{length-placed, take-placed-le, drop-placed, drop-placed-ge}
 use Rattle.stores.proofs.Packs.{slice-step, slice-none, total-step, total-none, total-snoc, cut-append, cut-same, packed-cut, take-set-snoc, slice-set, repacked-shrunk}

@@ -4,7 +4,7 @@ use mathlib.Core.Path.{_≡_}
 use mathlib.Core.Bool.{Bool, true, false}
 use mathlib.Core.List.{List, [], _∷_, _++_, map}
 use lib.ListN.{length}
-use Rattle.stores.specs.Packed.{repacked}
+use Rattle.rules.specs.Buffers.{repacked}
 use Rattle.stores.specs.Placed.{placed}
 use Rattle.rules.specs.Lists.{Bytes, if_then_else_, kept, packed}
 use Rattle.rules.specs.State as R

@@ -3,8 +3,14 @@
 ghost use mathlib.Core.Path.{_≡_};
 ghost use mathlib.Core.List.{[]};
 ghost use Rattle.numbers.specs.Seats.{Holds};
+ghost use Rattle.rules.specs.Lists.{if_then_else_};
+ghost use lib.ListN.{length};
+ghost use Rattle.outbox.specs.View.{ExactOutbox};
+ghost use Rattle.peer_session.specs.Allocates.{Allocates};
 ghost use Rattle.peer_session.specs.View.{held};
+ghost use Rattle.peer_session.specs.Sound.{soundAcks, soundSizes, Checked};
 ghost use Rattle.peer_session.specs.New.{New, nothing, NoMessages, NoFrames, NoHandoff};
+use events::Stop;
 use numbers::Numbers;
 use outbox::Outbox;
 use outbox::Unacked;
@@ -13,6 +19,7 @@ use queue::Queued;
 use rules::Clock;
 use rules::Policy;
 use rules::ReceiveMode;
+use rules::Refusal;
 use rules::Setup;
 
 // What coordination.rs decides by.
@@ -194,4 +201,112 @@ pub fn no_handoff() -> TerminalHandoff
         acknowledged: false,
         present: false,
     }
+}
+
+// ---- sending
+
+// The outbox, with the refusal that left it as it was.
+pub struct Allocated {
+    pub outbox: Outbox,
+    pub stop: Stop,
+}
+
+// A message gets the next number, and joins the unacked as pending.
+pub fn allocate(o: Outbox, store: &mut [u8], body: &[u8]) -> Allocated
+    requires { ⌜ ExactOutbox o (length (now store)) ⌝ }
+    ensures { λ r. ⌜ Allocates (now (body .entry)) o (now (store .entry)) r (now (store .exit)) ⌝ }
+{
+    if SessionState::LAST_MESSAGE < o.next {
+        return Allocated {
+            outbox: o,
+            stop: Stop::By(Refusal::NumbersExhausted),
+        };
+    }
+    if SessionState::MAX_UNACKED <= o.count {
+        return Allocated {
+            outbox: o,
+            stop: Stop::By(Refusal::UnackedFull),
+        };
+    }
+    let at = outbox::used(o);
+    if SessionState::OUTBOUND_BYTES - at < body.len() {
+        return Allocated {
+            outbox: o,
+            stop: Stop::By(Refusal::UnackedFull),
+        };
+    }
+    let more = outbox::append(o, store, at, body);
+    Allocated {
+        outbox: more,
+        stop: Stop::No,
+    }
+}
+
+// ---- whether a session is one that calls leave
+
+pub fn sound_acks(w: Numbers, r: Numbers, queued: usize, remote: u64) -> bool
+    ensures { λ b. ⌜ b ≡ soundAcks w r queued remote ⌝ }
+{
+    if 512 < w.count {
+        return false;
+    }
+    if 512 - w.count < queued {
+        return false;
+    }
+    if 512 < r.count {
+        return false;
+    }
+    if !numbers::rises(w, 0, 0) {
+        return false;
+    }
+    if !numbers::at_most(w, remote) {
+        return false;
+    }
+    numbers::ascends(r)
+}
+
+pub fn sound_sizes(disposition: u8, handoff: usize, reject: usize) -> bool
+    ensures { λ r. ⌜ r ≡ soundSizes disposition handoff reject ⌝ }
+{
+    if 4 < disposition {
+        return false;
+    }
+    if 4096 < handoff {
+        return false;
+    }
+    if reject < 1 {
+        return false;
+    }
+    reject <= 64
+}
+
+// How many bytes of a handoff count.
+pub fn handoff_length(present: bool, len: usize) -> usize
+    ensures { λ r. ⌜ r ≡ (if present then len else 0) ⌝ }
+{
+    if present {
+        return len;
+    }
+    0
+}
+
+pub fn sound(s: SessionState) -> bool
+    ensures { λ r. ⌜ Checked s r ⌝ }
+{
+    let o = s.outbox;
+    if !outbox::sound_outbox(o) {
+        return false;
+    }
+    let q = s.queue;
+    let p = s.policy;
+    if !queue::sound_queue(q, s.remote, p) {
+        return false;
+    }
+    let w = s.waiting;
+    let t = s.retry;
+    if !sound_acks(w, t, q.count, s.remote) {
+        return false;
+    }
+    let h = handoff_length(s.handoff.present, s.handoff.len);
+    sound_sizes(s.stage.disposition, h, s.reject.len)
 }

@@ -3,7 +3,8 @@ use Prim.Native.Nat.{ℕ, _≤_}
 use mathlib.Core.Path.{_≡_}
 use mathlib.Core.List.{List}
 use lib.ListN.{length, take}
-use Rattle.stores.specs.Packed.{cut, repacked}
+use Rattle.stores.specs.Packed.{cut}
+use Rattle.rules.specs.Buffers.{repacked}
 use Rattle.rules.specs.Lists.{Bytes, total, packed}
 use Rattle.rules.specs.State as R
 use Rattle.rules.specs.State.{frame-body}

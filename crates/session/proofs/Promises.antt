@@ -18,6 +18,7 @@ use Rattle.rules.specs.Events.{Event, handed, listed}
 use Rattle.rules.specs.Progress.{Outcome, outcome}
 use Rattle.rules.specs.Calls.{Call, step}
 use Rattle.rules.proofs.Lists.{length-packed}
+use Rattle.rules.proofs.Buffers.{repacked-same}
 use Rattle.rules.specs.Buffers.{Lent, Takes, taken-by, short, wrong-code, over, flat, list-after, delivery-after, repacked, outbound-end, queue-end, outbound-reach, queue-reach, outbound-after, queue-after, where-taken, lent-after}
 use Rattle.events.specs.Written.{ListedIn}
 use Rattle.peer_session.specs.declared.SessionState.{SessionState}
@@ -53,17 +54,6 @@ pub list-written : {us : List Unacked} {es : List Event} {l l′ : List ℕ} {n 
 unfolding placed
 list-written {us} {es} {l} h =
     h .words 0 ∙ ap (λ (k : ℕ). flat (listed us 0 es) ++ drop k l) (zero-add (length (flat (listed us 0 es))))
-
--- a store that is left alone, its bodies where they were
-pub repacked-same : (n : ℕ) (b s : Bytes) → b ≡ take n s → length b ≡ n → repacked n b s ≡ s
-unfolding repacked
-repacked-same n b s e h =
-    let z : n - length b ≡ 0 = omega arith in
-    let m : max n (length b) ≡ n = omega arith in
-    ap (λ (k : ℕ). b ++ (replicate k 0 ++ drop (max n (length b)) s)) z
-    ∙ ap (λ (k : ℕ). b ++ drop k s) m
-    ∙ ap (λ (x : Bytes). x ++ drop n s) e
-    ∙ take-append-drop n s
 
 exit-cong : {h k : Held} {a b : Answer} {m n : ℕ} {x y : Lent} → h ≡ k → a ≡ b → m ≡ n → x ≡ y → exit h a m x ≡ exit k b n y
 exit-cong p q r s = cc

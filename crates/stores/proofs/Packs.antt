@@ -10,7 +10,8 @@ use native.Mathlib.Numerals.{add-one}
 use lib.Seq.{set-split, take-nil, drop-nil, take-suc-set, take-set-lt, drop-set-lt, slice, slice-cons, take-at, drop-at, take-append-le, drop-append-le, take-take, drop-drop, take-add, length-take-le}
 use Rattle.rules.specs.Lists.{total, packed}
 use Rattle.rules.proofs.Lists.{total-append}
-use Rattle.stores.specs.Packed.{cut, repacked}
+use Rattle.stores.specs.Packed.{cut}
+use Rattle.rules.specs.Buffers.{repacked}
 use Rattle.stores.specs.Placed.{placed}
 use Rattle.stores.proofs.Laws.{length-placed, take-placed-le, take-placed-end, drop-placed}
 

@@ -1,15 +1,11 @@
 -- Bodies that lie packed from index 0 of a store, one for each record of a list, in its order. `size` says how many bytes a record's body has, and
 -- `make` puts a record and its body together. Assumes nothing.
-use Prim.Native.Nat.{ℕ, _+_, _-_, max}
-use mathlib.Core.List.{List, [], _∷_, _++_}
-use lib.ListN.{length, take, drop, replicate}
+use Prim.Native.Nat.{ℕ}
+use mathlib.Core.List.{List, [], _∷_}
+use lib.ListN.{take, drop}
 
 module _ {A M : Type 0} (size : A → ℕ) (make : A → List ℕ → M) where
   -- the records, each with its body, cut from the store
   unfoldable pub cut : List A → List ℕ → List M
   cut [] s = []
   cut (u ∷ us) s = make u (take (size u) s) ∷ cut us (drop (size u) s)
-
--- a store after a call: the bodies, then 0 up to index n, as far as bodies reached before, and then the bytes as they were
-unfoldable pub repacked : ℕ → List ℕ → List ℕ → List ℕ
-repacked n b s = b ++ (replicate (n - length b) 0 ++ drop (max n (length b)) s)
