@@ -1,8 +1,8 @@
 -- One message more, and none. Assumes nothing.
 use mathlib.Core.Path.{_≡_, refl, sym, ap, _∙_}
-use mathlib.Core.Bool.{Bool, true, false}
+use mathlib.Core.Bool.{true, false}
 use mathlib.Core.List.{List, [], _∷_, _++_, append-assoc, append-nil}
-use Prim.Native.Nat.{ℕ, zero, suc, _+_, _-_, _≤_, _<_}
+use Prim.Native.Nat.{ℕ, _+_, _-_, _≤_}
 use native.Mathlib.Omega.{arith}
 use native.Mathlib.Nat.{zero-add, sub-zero}
 use lib.ListN.{length, take, drop, set, replicate, length-append, length-set, length-replicate}
@@ -20,7 +20,7 @@ use Rattle.rules.proofs.Lists.{packed-append}
 use Rattle.outbox.specs.declared.Unacked.{Unacked}
 use Rattle.outbox.specs.declared.Outbox.{Outbox}
 use Rattle.outbox.specs.View.{lenU, unacked, usedU, unackedOf, endU, ExactOutbox}
-use Rattle.outbox.specs.Steps.{Repacked, Appended, Left, Room}
+use Rattle.outbox.specs.Steps.{Appended, Left, Room}
 use Rattle.outbox.proofs.View.{packed-unacked}
 
 module _ (x : Outbox) (o b o′ : Bytes) (at : ℕ) (room : Room x (length o) at (length b)) (e : o′ ≡ placed o at b) where

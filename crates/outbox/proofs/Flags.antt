@@ -1,11 +1,11 @@
 -- Flags of records are changed, and their numbers and bodies are not. Assumes nothing.
 use mathlib.Core.Path.{_≡_, refl, sym, ap, _∙_}
-use mathlib.Core.Bool.{Bool, true, false, not, _&&_, _||_}
-use mathlib.Core.List.{List, [], _∷_, _++_, map}
+use mathlib.Core.Bool.{Bool, true, false, _||_}
+use mathlib.Core.List.{List, [], _∷_, map}
 use Prim.Native.Nat.{ℕ, _+_, _≤_, _<_}
 use native.Mathlib.Omega.{arith}
 use lib.ListN.{length, take, drop, getD, set}
-use lib.Dec.{leb, ltb, eqb}
+use lib.Dec.{eqb}
 use borrow.Author.Tests.{lt-ltb, le-ltb}
 use Rattle.stores.specs.Packed.{cut}
 use Rattle.stores.proofs.Runs.{Mapped, mapped-none, mapped-later, mapped-more, mapped-all}
@@ -15,7 +15,7 @@ use Rattle.rules.specs.Acks.{sent}
 use Rattle.rules.specs.Commits.{release}
 use Rattle.outbox.specs.declared.Unacked.{Unacked}
 use Rattle.outbox.specs.declared.Outbox.{Outbox}
-use Rattle.outbox.specs.View.{lenU, unacked, usedU, unackedOf, endU, ExactOutbox, blankU}
+use Rattle.outbox.specs.View.{lenU, unacked, usedU, unackedOf, endU, blankU}
 use Rattle.outbox.specs.Records.{survivesU, releaseU, releasesU, sentU}
 use Rattle.outbox.specs.Steps.{Flagged}
 

@@ -1,15 +1,15 @@
 -- Sends that are listed: a loop over the records lists code 8 for those that pass a test, and the rule book's words point to the same bytes.
 -- Assumes nothing.
 use mathlib.Core.Path.{_≡_, refl, sym, ap, _∙_, subst, subst⁻¹}
-use mathlib.Core.Bool.{Bool, true, false, _&&_}
+use mathlib.Core.Bool.{Bool, true, false}
 use mathlib.Core.List.{List, [], _∷_, _++_, map, map-append}
 use Prim.Native.Nat.{ℕ, zero, suc, _+_, _-_, _*_, _≤_, _<_}
 use native.Mathlib.Omega.{arith}
 use native.Mathlib.Nat.{add-zero}
 use native.Mathlib.Numerals.{add-one}
-use lib.ListN.{length, take, drop, getD, length-take, length-drop}
+use lib.ListN.{length, take, drop, getD, length-drop}
 use lib.Seq.{slice, take-suc, take-all, getD-take, length-take-le}
-use lib.Dec.{ltb, eqb}
+use lib.Dec.{ltb}
 use borrow.Author.Tests.{ltb-true, eq-eqb, ne-eqb}
 use Rattle.stores.specs.Packed.{cut}
 use Rattle.stores.specs.Placed.{placed}
@@ -18,10 +18,10 @@ use Rattle.stores.proofs.Packs.{take-cut, cut-append, length-cut, total-split, 
 use Rattle.rules.specs.Lists.{Bytes, if_then_else_, kept, before, total, rising}
 use Rattle.rules.specs.State as R
 use Rattle.rules.specs.State.{size-of, is-number, start-of}
-use Rattle.rules.specs.Events.{Event, message, commit-requested, acknowledged, rejection-acknowledged, keepalive, committed, failure, send-data, send-ack, answer-ack, words-of, handed, listed}
+use Rattle.rules.specs.Events.{Event, message, commit-requested, acknowledged, rejection-acknowledged, keepalive, committed, failure, send-data, send-ack, answer-ack, listed}
 use Rattle.rules.specs.Buffers.{flat}
 use Rattle.rules.specs.Commits.{data-frame}
-use Rattle.rules.proofs.Lists.{and-left, and-right, if-rule, kept-append}
+use Rattle.rules.proofs.Lists.{and-left, and-right, kept-append}
 use Rattle.events.specs.Written.{ListedIn}
 use Rattle.events.proofs.Laws.{listed-none, listed-then}
 use Rattle.outbox.specs.declared.Unacked.{Unacked}

@@ -2,7 +2,7 @@
 use mathlib.Core.Path.{_≡_, refl, sym, ap, _∙_}
 use mathlib.Core.Bool.{Bool, true, false}
 use mathlib.Core.List.{List, [], _∷_}
-use mathlib.Core.Option.{Option, none, some}
+use mathlib.Core.Option.{some}
 use Prim.Native.Nat.{ℕ, _+_, _-_, _≤_, _<_}
 use native.Mathlib.Omega.{arith}
 use native.Mathlib.Nat.{add-assoc, add-zero}
@@ -12,15 +12,12 @@ use lib.Dec.{eqb}
 use borrow.Author.Tests.{eq-eqb, ne-eqb}
 use Rattle.stores.specs.Packed.{cut}
 use Rattle.stores.proofs.Packs.{slice-step, slice-none}
-use Rattle.rules.specs.declared.Answer.{Answer}
-use Rattle.rules.specs.declared.Answer.the-variants.{Held, NotHeld}
+use Rattle.rules.specs.declared.Answer.the-variants.{Held}
 use Rattle.rules.specs.Lists.{Bytes, if_then_else_, first, before, total}
-use Rattle.rules.specs.State as R
 use Rattle.rules.specs.State.{size-of, is-number, held, start-of}
 use Rattle.rules.specs.Replay.{place}
 use Rattle.outbox.specs.declared.Unacked.{Unacked}
 use Rattle.outbox.specs.declared.Outbox.{Outbox}
-use Rattle.outbox.specs.declared.Place.{Place}
 use Rattle.outbox.specs.declared.Place.the-variants.{At, Nowhere}
 use Rattle.outbox.specs.View.{lenU, unacked, usedU, unackedOf, endU, blankU}
 use Rattle.outbox.specs.Records.{placeU, answerOf}

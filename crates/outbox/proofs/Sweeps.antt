@@ -1,12 +1,12 @@
 -- A turn of a sweep, and its end. Assumes nothing.
 use mathlib.Core.Path.{_≡_, refl, sym, ap, _∙_}
 use mathlib.Core.Bool.{Bool, true, false}
-use mathlib.Core.List.{List, [], _∷_, _++_, map, append-assoc, append-nil}
-use Prim.Native.Nat.{ℕ, zero, suc, _+_, _-_, _≤_, _<_}
+use mathlib.Core.List.{List, [], _∷_, _++_, append-assoc, append-nil}
+use Prim.Native.Nat.{ℕ, _+_, _-_, _≤_, _<_}
 use native.Mathlib.Omega.{arith}
 use native.Mathlib.Nat.{zero-add}
 use lib.ListN.{length, take, drop, getD, set, replicate, length-take, length-drop, length-replicate, length-set, take-append-drop}
-use lib.Seq.{slice, drop-drop, take-append-seam, length-take-le, take-at}
+use lib.Seq.{slice, drop-drop, length-take-le, take-at}
 use Rattle.stores.specs.Packed.{cut}
 use Rattle.rules.specs.Buffers.{repacked}
 use Rattle.stores.specs.Placed.{placed}
@@ -19,9 +19,9 @@ use Rattle.rules.specs.Acks.{survives}
 use Rattle.outbox.specs.declared.Unacked.{Unacked}
 use Rattle.outbox.specs.declared.Outbox.{Outbox}
 use Rattle.outbox.specs.declared.Sweep.{Sweep}
-use Rattle.outbox.specs.View.{lenU, unacked, usedU, unackedOf, endU, blankU, ExactOutbox}
+use Rattle.outbox.specs.View.{lenU, unacked, unackedOf, endU, blankU, ExactOutbox}
 use Rattle.outbox.specs.Records.{survivesU}
-use Rattle.outbox.specs.Steps.{Repacked, Left}
+use Rattle.outbox.specs.Steps.{Left}
 use Rattle.outbox.specs.Sweeps.{stay, todo, ends, left, Sweeping, Swept}
 
 -- a body that is in its place

@@ -282,12 +282,13 @@ pub fn release(o: Outbox, upto: u64, list: &mut [u64], n: usize) -> Released
     let mut i = 0;
     while i < count {
         let u = r.records[i];
+        let size = u.len as usize;
         let goes = releases(u, upto);
         let m = send_if(goes, u, list, k, at);
         let v = release_one(goes, u);
         r.records[i] = v;
         k = m;
-        at += u.len as usize;
+        at += size;
         i += 1;
     }
     Released {
@@ -307,8 +308,7 @@ pub fn replay(o: Outbox, list: &mut [u64], n: usize) -> usize
     let mut i = 0;
     while i < count {
         let u = o.records[i];
-        let goes = !u.pending;
-        let m = send_if(goes, u, list, k, at);
+        let m = send_if(!u.pending, u, list, k, at);
         k = m;
         at += u.len as usize;
         i += 1;

@@ -6,7 +6,8 @@ use native.Mathlib.Omega.{arith}
 use lib.ListN.{length, take, drop, set, replicate, length-append, length-take, length-drop, length-replicate, length-set, drop-of-length-le}
 use lib.Seq.{take-take}
 use Rattle.stores.specs.Placed.{placed}
-use Rattle.stores.specs.Packed.{cut, repacked}
+use Rattle.stores.specs.Packed.{cut}
+use Rattle.rules.specs.Buffers.{repacked}
 use Rattle.stores.proofs.Laws.{length-placed, take-placed-le, take-placed-end, drop-placed, drop-placed-ge}
 use Rattle.stores.proofs.Packs.{packed-cut, map-append, map-take, map-drop, take-cut, drop-cut, total-split, drop-take, opened, repacked-grown, repacked-shrunk}
 use Rattle.rules.specs.Lists.{Bytes, total, packed}

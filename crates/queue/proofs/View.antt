@@ -6,7 +6,8 @@ use Prim.Native.Nat.{ℕ, _+_, _-_, _≤_, _<_, max}
 use native.Mathlib.Omega.{arith}
 use lib.ListN.{length, take, drop, replicate}
 use lib.Seq.{length-take-le, drop-at}
-use Rattle.stores.specs.Packed.{cut, repacked}
+use Rattle.stores.specs.Packed.{cut}
+use Rattle.rules.specs.Buffers.{repacked}
 use Rattle.stores.specs.Fronts.{front}
 use Rattle.stores.proofs.Packs.{Packing, cut-packed, map-cut, length-cut, packed-cut, length-packed, length-repacked, repacked-tail}
 use Rattle.stores.proofs.Cuts.{any-cut, front-cut}

@@ -1,7 +1,6 @@
 use native.Mathlib.Omega.{arith}
-use mathlib.Core.Path.{_≡_, _∙_, sym}
-use Prim.Native.Nat.{ℕ, _+_, _-_, _≤_}
-use lib.ListN.{length}
+use mathlib.Core.Path.{_∙_}
+use Prim.Native.Nat.{_-_}
 use Rattle.outbox.proofs.Sweeps.{Turns, turned, starts, finished}
 use borrow.Author.Needs.{needs}
 use Rattle.outbox.proofs.acknowledge.Statement.{statement}

@@ -1,4 +1,4 @@
-use mathlib.Core.Path.{_≡_, refl, sym, _∙_}
+use mathlib.Core.Path.{refl, sym}
 use Rattle.outbox.proofs.Sounds.{lt-skip, lt-stop}
 use borrow.Author.Needs.{needs}
 use Rattle.outbox.proofs.admits_unacked.Statement.{statement}

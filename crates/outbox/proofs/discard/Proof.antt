@@ -1,4 +1,3 @@
-use native.Mathlib.Omega.{arith}
 use Rattle.outbox.proofs.Appends.{discarded}
 use borrow.Author.Needs.{needs}
 use Rattle.outbox.proofs.discard.Statement.{statement}

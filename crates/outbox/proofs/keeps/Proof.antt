@@ -1,4 +1,4 @@
-use mathlib.Core.Path.{_≡_, refl, sym, ap, _∙_}
+use mathlib.Core.Path.{sym}
 use Rattle.outbox.proofs.Flags.{survives-above, survives-pending, survives-unsent}
 use borrow.Author.Needs.{needs}
 use Rattle.outbox.proofs.keeps.Statement.{statement}

@@ -1,7 +1,7 @@
 use native.Mathlib.Omega.{arith}
-use mathlib.Core.Path.{_≡_, refl, ap, _∙_, sym}
-use Prim.Native.Nat.{ℕ, _+_, _-_, _*_, _≤_}
-use lib.ListN.{length, take, getD}
+use mathlib.Core.Path.{_≡_, refl, _∙_, sym}
+use Prim.Native.Nat.{_+_, _-_, _≤_}
+use lib.ListN.{length, take}
 use lib.Seq.{slice}
 use Rattle.stores.proofs.Packs.{unmapped, total-step}
 use Rattle.rules.specs.Lists.{total}

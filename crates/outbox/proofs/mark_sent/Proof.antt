@@ -1,7 +1,5 @@
-use native.Mathlib.Omega.{arith}
-use mathlib.Core.Path.{_≡_, refl, ap, _∙_, sym}
-use Prim.Native.Nat.{ℕ, _+_, _-_, _*_, _≤_}
-use lib.ListN.{length, getD}
+use mathlib.Core.Path.{_≡_, refl}
+use Prim.Native.Nat.{_-_}
 use Rattle.stores.proofs.Packs.{unmapped}
 use Rattle.outbox.proofs.Flags.{Flagging, flagging-none, flagging-more, flagging-all, sent-flags}
 use borrow.Author.Needs.{needs}

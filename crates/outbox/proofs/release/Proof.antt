@@ -1,6 +1,6 @@
 use native.Mathlib.Omega.{arith}
-use mathlib.Core.Path.{_≡_, refl, ap, _∙_, sym}
-use Prim.Native.Nat.{ℕ, _+_, _-_, _*_, _≤_}
+use mathlib.Core.Path.{_≡_, refl, ap, _∙_}
+use Prim.Native.Nat.{_+_, _-_, _≤_}
 use lib.ListN.{length, getD}
 use Rattle.stores.proofs.Packs.{unmapped}
 use Rattle.rules.specs.Commits as R
@@ -51,35 +51,35 @@ mul-u c = search needs
 element-copy-out-u : tie.Need-element-copy-out-u Inv-loop μ-loop
 element-copy-out-u c = search needs
 
--- src/lib.rt:285:13
+-- src/lib.rt:285:20
+cast-size : tie.Need-cast-size Inv-loop μ-loop
+cast-size c = search needs
+
+-- src/lib.rt:286:13
 releases-requires : tie.Need-releases-requires Inv-loop μ-loop
 releases-requires c κs = search needs
 
--- src/lib.rt:286:13
-send-if-requires : tie.Need-send-if-requires Inv-loop μ-loop
-send-if-requires c κs = listing-room (c .before .before .before .before .loop .inv .2) (c .before .before .before .loop-test .taken)
-
 -- src/lib.rt:287:13
+send-if-requires : tie.Need-send-if-requires Inv-loop μ-loop
+send-if-requires c κs = listing-room (c .before .before .before .before .before .loop .inv .2) (c .before .before .before .before .loop-test .taken)
+
+-- src/lib.rt:288:13
 release-one-requires : tie.Need-release-one-requires Inv-loop μ-loop
 release-one-requires c κs = search needs
 
--- src/lib.rt:288:9
+-- src/lib.rt:289:9
 mul-v : tie.Need-mul-v Inv-loop μ-loop
 mul-v c = search needs
 
--- src/lib.rt:288:9
+-- src/lib.rt:289:9
 element-set-from-v : tie.Need-element-set-from-v Inv-loop μ-loop
 element-set-from-v c = search needs
 
--- src/lib.rt:290:15
-cast-at : tie.Need-cast-at Inv-loop μ-loop
-cast-at c = search needs
-
--- src/lib.rt:290:9
+-- src/lib.rt:291:9
 add-at : tie.Need-add-at Inv-loop μ-loop
 add-at c = omega (arith, fits (c .before .before .before .before .before .before .before .before))
 
--- src/lib.rt:291:9
+-- src/lib.rt:292:9
 add-i : tie.Need-add-i Inv-loop μ-loop
 add-i c = search needs
 
@@ -95,9 +95,9 @@ loop-again c =
     let f = l .loop .inv .1 in
     let u = getD (l .loop .r .records) (l .loop .i) blankU in (
       refl,
-      flagging-more (release-flags (c .before .before .before .before .before .before .before .before .before .before .before .args .upto)) f lt (c .before .release-one .result) (c .before .release-one .ensures ∙ ap (λ b. releasedU b u) (c .before .before .before .before .before .before .releases .ensures)),
-      listing-next (l .loop .inv .2) lt (releasesU (c .before .before .before .before .before .before .before .before .before .before .before .args .upto)) (λ v b. refl) u (flagging-at (release-flags (c .before .before .before .before .before .before .before .before .before .before .before .args .upto)) f lt) (c .before .before .before .before .before .before .releases .result)
-          (c .before .before .before .before .before .before .releases .ensures) (c .before .before .before .before .send-if .last .1 .1 .0) (c .before .before .before .before .send-if .result) (c .before .before .before .before .send-if .kept .1 .1 .0) (c .before .before .before .before .send-if .ensures),
+      flagging-more (release-flags (c .before .before .before .before .before .before .before .before .before .before .before .args .upto)) f lt (c .release-one .result) (c .release-one .ensures ∙ ap (λ b. releasedU b u) (c .before .before .before .before .before .releases .ensures)),
+      listing-next (l .loop .inv .2) lt (releasesU (c .before .before .before .before .before .before .before .before .before .before .before .args .upto)) (λ v b. refl) u (flagging-at (release-flags (c .before .before .before .before .before .before .before .before .before .before .before .args .upto)) f lt) (c .before .before .before .before .before .releases .result)
+          (c .before .before .before .before .before .releases .ensures) (c .before .before .before .send-if .last .1 .1 .0) (c .before .before .before .send-if .result) (c .before .before .before .send-if .kept .1 .1 .0) (c .before .before .before .send-if .ensures),
     )
 
 -- src/lib.rt:274:1
@@ -118,12 +118,12 @@ release-spec =
     loop-holds
     mul-u
     element-copy-out-u
+    cast-size
     releases-requires
     send-if-requires
     release-one-requires
     mul-v
     element-set-from-v
-    cast-at
     add-at
     add-i
     loop-less

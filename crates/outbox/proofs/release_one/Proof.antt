@@ -1,7 +1,6 @@
-use mathlib.Core.Path.{_≡_, refl, sym, ap, _∙_}
+use mathlib.Core.Path.{sym, ap}
 use mathlib.Core.Bool.{Bool}
 use Rattle.outbox.specs.Records.{releasedU}
-use borrow.Author.Needs.{needs}
 use Rattle.outbox.proofs.release_one.Statement.{statement}
 use Rattle.outbox.proofs.release_one.Tie as tie
 use Rattle.outbox.proofs.release_one.Reads as reads

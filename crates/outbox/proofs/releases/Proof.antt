@@ -1,5 +1,5 @@
 use mathlib.Core.Bool.{true, false}
-use mathlib.Core.Path.{_≡_, refl, sym, ap, _∙_}
+use mathlib.Core.Path.{_≡_, sym, ap}
 use mathlib.Core.Bool.{Bool, _&&_}
 use borrow.Author.Tests.{not-true, not-false}
 use lib.Dec.{leb}

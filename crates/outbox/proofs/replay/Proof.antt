@@ -1,6 +1,6 @@
 use native.Mathlib.Omega.{arith}
-use mathlib.Core.Path.{_≡_, refl, ap, _∙_, sym}
-use Prim.Native.Nat.{ℕ, _+_, _-_, _*_, _≤_}
+use mathlib.Core.Path.{_≡_, refl}
+use Prim.Native.Nat.{_-_}
 use lib.ListN.{length, getD}
 use Rattle.stores.proofs.Packs.{unmapped}
 use Rattle.rules.specs.Replay.{not-pending}

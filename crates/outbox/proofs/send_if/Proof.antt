@@ -1,4 +1,3 @@
-use mathlib.Core.Path.{_≡_, refl, sym, ap, _∙_}
 use Rattle.outbox.proofs.Listings.{sends, sends-not}
 use borrow.Author.Needs.{needs}
 use Rattle.outbox.proofs.send_if.Statement.{statement}

@@ -1,4 +1,4 @@
-use mathlib.Core.Path.{_≡_, refl, sym, _∙_}
+use mathlib.Core.Path.{sym}
 use Rattle.outbox.specs.Sound.{soundOutbox}
 use Rattle.outbox.proofs.Sounds.{le-skip, le-stop}
 use borrow.Author.Needs.{needs}
