@@ -1,0 +1,52 @@
+//! The differential harness: the unchanged Rust of the peer link behind the call script.
+use std::io::{Read, Write};
+
+mod host;
+mod link;
+mod oracle;
+mod refusals;
+mod script;
+mod view;
+
+/// The Rust itself, copied here by the build.
+#[allow(warnings)]
+mod peer_session;
+
+// Stand-ins for the three channel types, as far as session.rs names them.
+mod game_session {
+    pub struct TerminalHandoffCommand {
+        pub id: u64,
+        pub message: Vec<u8>,
+    }
+}
+mod session_phases {
+    pub mod effects {
+        #[allow(dead_code)]
+        pub enum GameSessionEvent {
+            OutboundMessage(Vec<u8>),
+            Other,
+        }
+    }
+}
+mod transaction_manager {
+    #[derive(Default)]
+    pub struct ManagerDrain {
+        pub events: std::collections::VecDeque<crate::session_phases::effects::GameSessionEvent>,
+    }
+}
+
+fn main() -> std::io::Result<()> {
+    let words: Vec<String> = std::env::args().skip(1).collect();
+    let words: Vec<&str> = words.iter().map(String::as_str).collect();
+    match words[..] {
+        ["oracle"] => {
+            let mut script = Vec::new();
+            std::io::stdin().read_to_end(&mut script)?;
+            oracle::answer_all(&script, &mut std::io::stdout().lock())
+        }
+        _ => {
+            writeln!(std::io::stderr(), "usage: oracle")?;
+            std::process::exit(2)
+        }
+    }
+}
