@@ -4,8 +4,10 @@ use std::io::{Read, Write};
 mod host;
 mod link;
 mod oracle;
+mod program;
 mod refusals;
 mod script;
+mod traps;
 mod view;
 
 /// The Rust itself, copied here by the build.
@@ -35,6 +37,20 @@ mod transaction_manager {
     }
 }
 
+const USAGE: &str = "usage: oracle < SCRIPT
+       traps [PROGRAM | --script]";
+
+fn read_traps() -> std::io::Result<String> {
+    let path = std::env::var_os("TRAPS").map(Into::into);
+    let path = path.or_else(|| program::find_upward("shared/design/TRAPS.md"));
+    std::fs::read_to_string(path.expect("no shared/design/TRAPS.md upward: set TRAPS"))
+}
+
+fn check_traps(program: Option<&str>) -> std::io::Result<()> {
+    let passed = traps::run(&read_traps()?, &program::Program::named(program));
+    std::process::exit(if passed { 0 } else { 1 })
+}
+
 fn main() -> std::io::Result<()> {
     let words: Vec<String> = std::env::args().skip(1).collect();
     let words: Vec<&str> = words.iter().map(String::as_str).collect();
@@ -44,8 +60,14 @@ fn main() -> std::io::Result<()> {
             std::io::stdin().read_to_end(&mut script)?;
             oracle::answer_all(&script, &mut std::io::stdout().lock())
         }
+        ["traps"] => check_traps(None),
+        ["traps", "--script"] => {
+            print!("{}", traps::script(&read_traps()?));
+            Ok(())
+        }
+        ["traps", program] => check_traps(Some(program)),
         _ => {
-            writeln!(std::io::stderr(), "usage: oracle")?;
+            writeln!(std::io::stderr(), "{USAGE}")?;
             std::process::exit(2)
         }
     }
