@@ -3,6 +3,7 @@ use std::io::{Read, Write};
 
 mod host;
 mod link;
+mod linkrun;
 mod oracle;
 mod program;
 mod refusals;
@@ -38,7 +39,26 @@ mod transaction_manager {
 }
 
 const USAGE: &str = "usage: oracle < SCRIPT
+       oracle --linkrun [MESSAGE_NUMBER] < SCRIPT
        traps [PROGRAM | --script]";
+
+fn read_input() -> std::io::Result<Vec<u8>> {
+    let mut input = Vec::new();
+    std::io::stdin().read_to_end(&mut input)?;
+    Ok(input)
+}
+
+fn answer_linkrun(message_number: &str) -> std::io::Result<()> {
+    let input = read_input()?;
+    let start = script::number(message_number.as_bytes());
+    match start.and_then(|number| linkrun::answer_all(&input, number)) {
+        Some(answers) => std::io::stdout().write_all(&answers),
+        None => {
+            eprintln!("no session starts at {message_number}");
+            std::process::exit(2)
+        }
+    }
+}
 
 fn read_traps() -> std::io::Result<String> {
     let path = std::env::var_os("TRAPS").map(Into::into);
@@ -55,11 +75,9 @@ fn main() -> std::io::Result<()> {
     let words: Vec<String> = std::env::args().skip(1).collect();
     let words: Vec<&str> = words.iter().map(String::as_str).collect();
     match words[..] {
-        ["oracle"] => {
-            let mut script = Vec::new();
-            std::io::stdin().read_to_end(&mut script)?;
-            oracle::answer_all(&script, &mut std::io::stdout().lock())
-        }
+        ["oracle"] => oracle::answer_all(&read_input()?, &mut std::io::stdout().lock()),
+        ["oracle", "--linkrun"] => answer_linkrun("1"),
+        ["oracle", "--linkrun", message_number] => answer_linkrun(message_number),
         ["traps"] => check_traps(None),
         ["traps", "--script"] => {
             print!("{}", traps::script(&read_traps()?));
