@@ -145,7 +145,6 @@ impl Session<NoChannel> {
             first_retry: number(session.retry_acks.first()),
             last_replay: session.last_replay_at,
             mode: session.receive_mode as u8,
-            disposition: session.state.disposition.clone(),
             gap: session.policy.max_future_reliable_msgno_gap,
             policy_bytes: session.policy.max_queued_bytes,
             policy_body: session.policy.max_peer_body_bytes,

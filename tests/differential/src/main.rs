@@ -1,11 +1,15 @@
 //! The differential harness: the unchanged Rust of the peer link behind the call script.
 use std::io::{Read, Write};
 
+mod compare;
+mod coverage;
+mod generate;
 mod host;
 mod link;
 mod linkrun;
 mod oracle;
 mod program;
+mod random;
 mod refusals;
 mod script;
 mod traps;
@@ -40,7 +44,18 @@ mod transaction_manager {
 
 const USAGE: &str = "usage: oracle < SCRIPT
        oracle --linkrun [MESSAGE_NUMBER] < SCRIPT
-       traps [PROGRAM | --script]";
+       traps [PROGRAM | --script]
+       gen SEED CALLS
+       run [--seed SEED] [--program PROGRAM | --coverage] CALLS";
+
+fn usage() -> ! {
+    eprintln!("{USAGE}");
+    std::process::exit(2)
+}
+
+fn parse(digits: &str) -> u64 {
+    digits.parse().unwrap_or_else(|_| usage())
+}
 
 fn read_input() -> std::io::Result<Vec<u8>> {
     let mut input = Vec::new();
@@ -71,6 +86,31 @@ fn check_traps(program: Option<&str>) -> std::io::Result<()> {
     std::process::exit(if passed { 0 } else { 1 })
 }
 
+fn compare_programs(options: &[&str]) -> std::io::Result<()> {
+    let built = program::find_upward("bin/linkcalls");
+    let (mut calls, mut seed, mut covers) = (None, 1, false);
+    let mut program = std::env::var("LINKCALLS").ok().or_else(|| built.map(|path| path.display().to_string()));
+    let mut options = options.iter();
+    while let Some(option) = options.next() {
+        match *option {
+            "--coverage" => covers = true,
+            "--seed" => seed = parse(options.next().unwrap_or_else(|| usage())),
+            "--program" => program = options.next().map(|path| path.to_string()),
+            number => calls = Some(parse(number)),
+        }
+    }
+    let calls = calls.unwrap_or_else(|| usage());
+    let passed = match program {
+        _ if covers => coverage::run(calls, seed),
+        Some(path) => compare::run(calls, seed, &program::Program::Other(path.into())),
+        None => {
+            eprintln!("no target/bin/linkcalls: build it, or name another by --program or LINKCALLS");
+            false
+        }
+    };
+    std::process::exit(if passed { 0 } else { 1 })
+}
+
 fn main() -> std::io::Result<()> {
     let words: Vec<String> = std::env::args().skip(1).collect();
     let words: Vec<&str> = words.iter().map(String::as_str).collect();
@@ -84,9 +124,11 @@ fn main() -> std::io::Result<()> {
             Ok(())
         }
         ["traps", program] => check_traps(Some(program)),
-        _ => {
-            writeln!(std::io::stderr(), "{USAGE}")?;
-            std::process::exit(2)
+        ["gen", seed, calls] => {
+            let script = generate::script(parse(seed), parse(calls) as usize);
+            std::io::stdout().write_all(&script.text())
         }
+        ["run", ref options @ ..] => compare_programs(options),
+        _ => usage(),
     }
 }

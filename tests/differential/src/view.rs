@@ -52,7 +52,6 @@ pub struct Summary {
     pub first_retry: Option<u64>,
     pub last_replay: f64,
     pub mode: u8,
-    pub disposition: String,
     pub gap: u64,
     pub policy_bytes: usize,
     pub policy_body: usize,
