@@ -44,8 +44,9 @@ const SUBJECTS: [(u64, Subject); 13] = [
 const CLASSES: [[u64; 4]; 4] =
     [[8, 8, 1_024, 128], [64, 64, 8_192, 512], [256, 256, 32_768, 4_096], [256, 256, 32_768, 16_384]];
 
-/// A planned completion, whose numbers are known only when its turn comes.
-const COMMIT: &str = "commit";
+// Planned calls whose numbers are known only when their turn comes.
+const COMMIT: &str = "(complete)";
+const RESTORE: &str = "(restore)";
 
 #[derive(Clone, Copy)]
 enum Word {
@@ -92,6 +93,7 @@ pub fn join(lines: &[Vec<u8>]) -> Vec<u8> {
     lines.iter().flat_map(|line| line.iter().copied().chain([b'\n'])).collect()
 }
 
+/// At least so many calls, up to the end of a session.
 pub fn script(seed: u64, calls: usize) -> Script {
     let mut generator = Generator {
         random: Random::new(seed),
@@ -102,7 +104,7 @@ pub fn script(seed: u64, calls: usize) -> Script {
         records: Vec::new(),
     };
     let mut script = Script { lines: Vec::new(), answers: Vec::new(), modes: Vec::new(), most: [0; 6] };
-    while script.lines.len() < calls {
+    while script.lines.len() < calls || generator.left > 0 || !generator.planned.is_empty() {
         let line = generator.line().into_bytes();
         let met = generator.oracle.link.as_ref().map(|link| link.session.summary());
         script.modes.push(met.as_ref().map_or(0, |s| s.mode));
@@ -135,6 +137,7 @@ impl Generator {
     fn line(&mut self) -> String {
         match self.planned.pop_front() {
             Some(line) if line == COMMIT => return self.full_commit(),
+            Some(line) if line == RESTORE => return self.early_restore(),
             Some(line) => return line,
             None => {}
         }
@@ -196,8 +199,7 @@ impl Generator {
             Keepalive => "keepalive".into(),
             Ready => format!("ready {} {}", self.status(), self.mode()),
             Accept => {
-                let proposal = if self.random.below(250) == 0 { self.bytes(65_537) } else { self.short_body() };
-                format!("accept {} {} {proposal}", self.terms(), self.random.below(2))
+                format!("accept {} {} {}", self.terms(), self.random.below(2), self.short_body())
             }
             Reject => "reject".into(),
             PrepareChannel => format!("prepare_channel {} {}", self.terms(), self.random.below(2)),
@@ -368,7 +370,7 @@ impl Generator {
                 for at in (1..numbers.len()).rev() {
                     numbers.swap(at, self.random.below(at as u64 + 1) as usize);
                 }
-                let length = self.random.pick(&[0, 1, 2, 127, 128]);
+                let length = self.random.pick(&[0, 1, 127, 128, 128]);
                 for number in numbers {
                     let (kind, body) = (self.random.below(3), self.bytes(length));
                     self.planned.push_back(format!("data {} {number} {kind} {body}", self.random.below(2)));
@@ -411,6 +413,21 @@ impl Generator {
                 self.planned.push_back("keepalive".into());
                 self.left = 60;
             }
+            Handoffs | Restores if self.random.chance(60) => {
+                // Only a session that has done nothing yet takes a restore.
+                for _ in 0..self.random.between(1, 4) {
+                    self.planned.push_back(RESTORE.into());
+                }
+            }
+            Proposals if self.random.chance(30) => {
+                let (first, mode) = (self.random.weighted(&[(3, 1), (1, 0)]), self.random.pick(&[1, 3]));
+                self.planned.push_back(format!("data 0 1 {first} aa"));
+                self.planned.push_back(format!("ready {} {mode}", self.random.below(2)));
+            }
+            Proposals if self.random.chance(4) => {
+                let proposal = self.bytes(65_537);
+                self.planned.push_back(format!("accept 7 1 {proposal}"));
+            }
             LastGenerations => {
                 for _ in 0..self.random.below(6) {
                     let body = self.short_body();
@@ -433,6 +450,16 @@ impl Generator {
             Some(link) => {
                 let s = link.session.summary();
                 format!("complete {} {} {} 1", s.generation, s.message_number - 1, s.remote)
+            }
+            None => "prepare".into(),
+        }
+    }
+
+    fn early_restore(&mut self) -> String {
+        match &self.oracle.link {
+            Some(link) => {
+                let s = link.session.summary();
+                self.restore(&s)
             }
             None => "prepare".into(),
         }
@@ -666,7 +693,7 @@ impl Generator {
             0 if s.policy_body <= 512 || self.random.chance(20) => self.random.near(s.policy_body as u64 + 2).saturating_sub(2) as usize,
             1 | 2 if room <= 512 || self.random.chance(20) => self.random.near(room as u64 + 2).saturating_sub(2) as usize,
             3 => self.random.below(200) as usize,
-            _ => return self.short_body(),
+            _ => (self.random.below(4) as usize).min(s.policy_body),
         };
         self.bytes(length.min(s.policy_body + 2))
     }
