@@ -102,8 +102,13 @@ fn show(lines: &[Vec<u8>], program: &Program) {
     let script = join(lines);
     let (output, ended_badly) = program.run(&script);
     let (expected, _) = Program::Oracle.run(&script);
-    for line in lines {
-        println!("> {}", cut(line));
+    for (at, line) in lines.iter().enumerate() {
+        match lines.len() {
+            // A limit of hundreds needs hundreds of calls; they are in the file.
+            count if count > 40 && at == 10 => println!("> ... ({} lines)", count - 30),
+            count if count > 40 && (11..count - 20).contains(&at) => {}
+            _ => println!("> {}", cut(line)),
+        }
     }
     let (ours, theirs): (Vec<_>, Vec<_>) = (oracle::lines(&expected).collect(), oracle::lines(&output).collect());
     let same = ours.iter().zip(&theirs).take_while(|(a, b)| a == b).count();
