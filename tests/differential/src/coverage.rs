@@ -1,10 +1,13 @@
 //! Which answers and events random scripts bring about.
-use std::collections::BTreeMap;
+use std::collections::{BTreeMap, BTreeSet};
 
-use crate::generate::{self, HELD};
-use crate::oracle;
+use crate::generate::{self, join, HELD};
+use crate::oracle::Oracle;
 
-/// Every refusal that a call can give without a buffer too short.
+/// A call's word, and one thing seen in its answer.
+type Kind = (String, String);
+
+/// Every refusal that a call can give while its buffers are long enough.
 const REFUSALS: [(&str, &[u8]); 13] = [
     ("start", &[2, 3]),
     ("send", &[21, 22, 23]),
@@ -22,25 +25,77 @@ const REFUSALS: [(&str, &[u8]); 13] = [
 ];
 
 /// Every event code that a call can list. `ready` lists no code 10: no call queues a number up to remote.
-const EVENTS: [(&str, &[u64]); 9] = [
+const EVENTS: [(&str, &[u8]); 10] = [
     ("send", &[1]),
     ("data", &[1, 2, 7, 10]),
     ("ack", &[1, 3, 4, 7]),
     ("keepalive", &[5, 9]),
-    ("ready", &[1, 2, 7]),
+    ("ready", &[1, 2]),
     ("reject", &[1]),
     ("command", &[1]),
     ("complete", &[6, 8, 9]),
+    ("connectivity", &[8]),
     ("report", &[1]),
 ];
 
+/// Not refusals of the call: `ready` goes on, and lists them.
+const READY_FAILURES: [&str; 2] = ["code 7 by 9", "code 7 by 21"];
+
+/// What an answer shows.
+fn kinds(line: &[u8], answer: &[u8]) -> Vec<Kind> {
+    let text = String::from_utf8_lossy(answer);
+    let mut lines = text.lines();
+    let fields: Vec<&str> = lines.next().unwrap_or_default().split(' ').collect();
+    let word = String::from_utf8_lossy(line.split(|b| *b == b' ').next().unwrap_or_default()).into_owned();
+    let shown = match fields[..] {
+        ["?", _] => return vec![("no call".into(), "?".into())],
+        ["state", ..] => return vec![(word, "done".into())],
+        [_, "!", refusal, _] => format!("! {refusal}"),
+        ["connectivity" | "retire", answer, _] => format!("answer {answer}"),
+        ["fetch", "none"] => "none".into(),
+        _ => "done".into(),
+    };
+    let mut kinds = vec![(word.clone(), shown)];
+    for event in lines {
+        let words: Vec<&str> = event.split(' ').take(2).collect();
+        let code = match words[..] {
+            ["7", refusal] => format!("code 7 by {refusal}"),
+            _ => format!("code {}", words[0]),
+        };
+        kinds.push((word.clone(), code));
+    }
+    kinds
+}
+
+/// A script of short sessions, each of which shows something that those before it do not.
+pub fn covering_script(scripts: u64, longest_session: usize) -> Vec<u8> {
+    let mut seen = BTreeSet::new();
+    let mut chosen = Vec::new();
+    for seed in 0..scripts {
+        let lines = generate::script(seed, 1_000).lines;
+        for session in lines.chunk_by(|_, next| !next.starts_with(b"start ")) {
+            let mut oracle = Oracle::default();
+            let shown: BTreeSet<Kind> = session
+                .iter()
+                .flat_map(|line| {
+                    let mut answer = Vec::new();
+                    oracle.answer(line, &mut answer);
+                    kinds(line, &answer)
+                })
+                .collect();
+            let text = join(session);
+            if text.len() <= longest_session && !shown.is_subset(&seen) {
+                seen.extend(shown);
+                chosen.extend(text);
+            }
+        }
+    }
+    chosen
+}
+
 #[derive(Default)]
 struct Table {
-    answers: BTreeMap<(String, String), u64>,
-    events: BTreeMap<(String, u64), u64>,
-    /// Codes 7 of a `ready`, by refusal: it is not refused.
-    ready_failures: BTreeMap<u64, u64>,
-    modes: BTreeMap<(String, u8), u64>,
+    counts: BTreeMap<Kind, u64>,
     longest: BTreeMap<String, usize>,
     most: [usize; 6],
 }
@@ -71,83 +126,49 @@ pub fn run(calls: u64, seed: u64) -> bool {
 
 impl Table {
     fn count(&mut self, line: &[u8], answer: &[u8], mode: u8) {
-        let mut lines = oracle::lines(answer).map(|line| String::from_utf8_lossy(line).into_owned());
-        let first = lines.next().unwrap_or_default();
-        let fields: Vec<&str> = first.split(' ').collect();
-        let word = String::from_utf8_lossy(line.split(|b| *b == b' ').next().unwrap_or_default()).into_owned();
-        let (word, outcome) = match fields[..] {
-            ["?", _] => ("no call".into(), "?".into()),
-            [_, "!", refusal, _] => (word, format!("! {refusal}")),
-            ["connectivity" | "retire", answer, _] => (word, format!("answer {answer}")),
-            ["fetch", "none"] => (word, "none".into()),
-            _ => (word, "done".into()),
-        };
-        *self.answers.entry((word.clone(), outcome)).or_default() += 1;
-        if word == "no call" || word == "state" {
-            return;
+        let kinds = kinds(line, answer);
+        let word = kinds[0].0.clone();
+        let longest = self.longest.entry(word.clone()).or_default();
+        *longest = (kinds.len() - 1).max(*longest);
+        for kind in kinds.into_iter().chain([(word, format!("mode {mode}"))]) {
+            *self.counts.entry(kind).or_default() += 1;
         }
-        *self.modes.entry((word.clone(), mode)).or_default() += 1;
-        let mut count = 0;
-        for event in lines {
-            count += 1;
-            let words: Vec<u64> = event.split(' ').take(2).filter_map(|w| w.parse().ok()).collect();
-            *self.events.entry((word.clone(), words[0])).or_default() += 1;
-            if word == "ready" && words[0] == 7 {
-                *self.ready_failures.entry(words[1]).or_default() += 1;
-            }
-        }
-        let longest = self.longest.entry(word).or_default();
-        *longest = count.max(*longest);
     }
 
     fn print(&self) {
-        let words: std::collections::BTreeSet<&String> = self.answers.keys().map(|(word, _)| word).collect();
-        for word in words {
-            let answers = self.answers.iter().filter(|((w, _), _)| w == word);
-            let answers: Vec<String> = answers.map(|((_, outcome), n)| format!("{outcome}: {n}")).collect();
-            println!("{word}\n  answers  {}", answers.join(", "));
-            let events = self.events.iter().filter(|((w, _), _)| w == word);
-            let events: Vec<String> = events.map(|((_, code), n)| format!("{code}: {n}")).collect();
-            if !events.is_empty() {
-                println!("  events   {} (most in one call {})", events.join(", "), self.longest[word]);
-            }
-            let modes = self.modes.iter().filter(|((w, _), _)| w == word);
-            let modes: Vec<String> = modes.map(|((_, mode), n)| format!("{mode}: {n}")).collect();
-            if !modes.is_empty() {
-                println!("  in mode  {}", modes.join(", "));
+        for (word, longest) in &self.longest {
+            println!("{word} (at most {longest} events)");
+            let of_word = || self.counts.iter().filter(|((w, _), _)| w == word).map(|((_, what), n)| (what, n));
+            let (codes, rest): (Vec<_>, Vec<_>) = of_word().partition(|(what, _)| what.starts_with("code"));
+            let (modes, answers): (Vec<_>, Vec<_>) = rest.into_iter().partition(|(what, _)| what.starts_with("mode"));
+            for group in [answers, codes, modes].iter().filter(|group| !group.is_empty()) {
+                let cells: Vec<String> = group.iter().map(|(what, n)| format!("{what}: {n}")).collect();
+                println!("  {}", cells.join(", "));
             }
         }
-        println!("code 7 of ready, by refusal {:?}", self.ready_failures);
         let most: Vec<String> = HELD.iter().zip(self.most).map(|(what, most)| format!("{what} {most}")).collect();
         println!("most held: {}", most.join(", "));
     }
 
     fn missing(&self) -> Vec<String> {
-        let mut missing = Vec::new();
+        let mut wanted: Vec<(&str, String)> = Vec::new();
         for (word, refusals) in REFUSALS {
-            for refusal in refusals {
-                if !self.answers.contains_key(&(word.into(), format!("! {refusal}"))) {
-                    missing.push(format!("{word} refused by {refusal}"));
-                }
-            }
+            wanted.extend(refusals.iter().map(|refusal| (word, format!("! {refusal}"))));
         }
         for (word, codes) in EVENTS {
-            for code in codes {
-                if !self.events.contains_key(&(word.into(), *code)) {
-                    missing.push(format!("code {code} of {word}"));
-                }
-            }
+            wanted.extend(codes.iter().map(|code| (word, format!("code {code}"))));
         }
-        for refusal in [9, 21] {
-            if !self.ready_failures.contains_key(&refusal) {
-                missing.push(format!("code 7 of ready with {refusal}"));
-            }
+        wanted.extend(READY_FAILURES.map(|failure| ("ready", failure.into())));
+        for word in ["data", "ack", "ready"] {
+            wanted.extend((0..5).map(|mode| (word, format!("mode {mode}"))));
         }
-        for (word, mode) in ["data", "ack", "ready"].iter().flat_map(|word| (0..5).map(move |mode| (word, mode))) {
-            if !self.modes.contains_key(&(word.to_string(), mode)) {
-                missing.push(format!("{word} in mode {mode}"));
-            }
-        }
+        let is_seen = |word: &str, what: &str| {
+            // Codes 7 are counted by their refusal.
+            let same = |seen: &str| seen == what || what == "code 7" && seen.starts_with("code 7 by");
+            self.counts.keys().any(|(w, seen)| w == word && same(seen))
+        };
+        let unseen = wanted.iter().filter(|(word, what)| !is_seen(word, what));
+        let mut missing: Vec<String> = unseen.map(|(word, what)| format!("{word}: {what}")).collect();
         for (at, full) in [256, 65_536, 256, 32_768, 512, 512].into_iter().enumerate() {
             if self.most[at] < full {
                 missing.push(format!("{full} {}", HELD[at]));

@@ -340,108 +340,122 @@ impl Generator {
     /// The calls that bring a fresh session to a limit.
     fn plan(&mut self, message_number: u64, remote: u64) {
         match self.subject {
-            ManySends => {
-                for _ in 0..self.random.between(250, 258) {
-                    let body = self.short_body();
-                    self.planned.push_back(format!("send {body}"));
-                }
-                if self.random.chance(60) {
-                    self.plan_commit();
-                    if self.random.chance(60) {
-                        self.plan_reports(message_number, message_number + 255);
-                    }
-                }
-                self.left = 80;
-            }
-            LargeBodies => {
-                let length = self.random.pick(&[16_384, 21_845, 32_768, 60_000, 65_535, 65_536]);
-                for _ in 0..65_536 / length {
-                    let body = self.bytes(length);
-                    self.planned.push_back(format!("send {body}"));
-                }
-                if self.random.chance(50) {
-                    self.plan_commit();
-                    self.plan_reports(message_number, message_number);
-                }
-                self.left = 25;
-            }
-            LongQueue => {
-                let mut numbers: Vec<u64> = (2..=self.random.between(254, 258)).map(|n| remote + n).collect();
-                for at in (1..numbers.len()).rev() {
-                    numbers.swap(at, self.random.below(at as u64 + 1) as usize);
-                }
-                let length = self.random.pick(&[0, 1, 127, 128, 128]);
-                for number in numbers {
-                    let (kind, body) = (self.random.below(3), self.bytes(length));
-                    self.planned.push_back(format!("data {} {number} {kind} {body}", self.random.below(2)));
-                }
-                match self.random.below(3) {
-                    0 => self.planned.push_back(format!("data 1 {} 0 aa", remote + 1)),
-                    1 => {
-                        self.planned.push_back(format!("data 0 {} 0 aa", remote + 1));
-                        self.planned.push_back(format!("ready 1 {}", self.random.pick(&[0, 3, 4])));
-                    }
-                    _ => {}
-                }
-                self.left = 80;
-            }
-            ManyWaiting => {
-                // Waiting acks and queued messages together come to about 512.
-                let queued = self.random.pick(&[0, 0, 100, 255, 256]);
-                let waiting = 512 - queued;
-                for n in 1..=waiting {
-                    self.planned.push_back(format!("data 1 {} 0 -", remote + n));
-                }
-                for n in 0..queued {
-                    self.planned.push_back(format!("data 0 {} 0 -", remote + waiting + 2 + n));
-                }
-                for n in [0, 1, queued + 1, queued + 2] {
-                    self.planned.push_back(format!("data 1 {} 0 -", remote + waiting + n));
-                }
-                if self.random.chance(50) {
-                    for _ in 0..256 {
-                        self.planned.push_back("send aa".into());
-                    }
-                    self.plan_commit();
-                }
-                self.left = 60;
-            }
+            ManySends => self.plan_many_sends(message_number),
+            LargeBodies => self.plan_large_bodies(message_number),
+            LongQueue => self.plan_long_queue(remote),
+            ManyWaiting => self.plan_many_waiting(remote),
             ManyRetries => {
                 for n in 0..self.random.between(510, 514) {
-                    self.planned.push_back(format!("report 1 {} 0", remote + 2 * n));
+                    self.plan_line(format!("report 1 {} 0", remote + 2 * n));
                 }
-                self.planned.push_back("keepalive".into());
+                self.plan_line("keepalive".into());
                 self.left = 60;
             }
+            // Only a session that has done nothing yet takes a restore.
             Handoffs | Restores if self.random.chance(60) => {
-                // Only a session that has done nothing yet takes a restore.
                 for _ in 0..self.random.between(1, 4) {
-                    self.planned.push_back(RESTORE.into());
+                    self.plan_line(RESTORE.into());
                 }
             }
             Proposals if self.random.chance(30) => {
                 let (first, mode) = (self.random.weighted(&[(3, 1), (1, 0)]), self.random.pick(&[1, 3]));
-                self.planned.push_back(format!("data 0 1 {first} aa"));
-                self.planned.push_back(format!("ready {} {mode}", self.random.below(2)));
+                self.plan_line(format!("data 0 1 {first} aa"));
+                let status = self.random.below(2);
+                self.plan_line(format!("ready {status} {mode}"));
             }
             Proposals if self.random.chance(4) => {
                 let proposal = self.bytes(65_537);
-                self.planned.push_back(format!("accept 7 1 {proposal}"));
+                self.plan_line(format!("accept 7 1 {proposal}"));
             }
             LastGenerations => {
                 for _ in 0..self.random.below(6) {
-                    let body = self.short_body();
-                    self.planned.push_back(format!("send {body}"));
+                    self.plan_send();
                 }
                 let near = self.random.between(4_294_965_998, 4_294_966_000);
-                self.planned.push_back(format!("poke generation {near}"));
+                self.plan_line(format!("poke generation {near}"));
             }
             _ => {}
         }
     }
 
-    fn plan_commit(&mut self) {
-        self.planned.push_back(COMMIT.into());
+    fn plan_line(&mut self, line: String) {
+        self.planned.push_back(line);
+    }
+
+    fn plan_send(&mut self) {
+        let body = self.short_body();
+        self.plan_line(format!("send {body}"));
+    }
+
+    fn plan_many_sends(&mut self, message_number: u64) {
+        for _ in 0..self.random.between(250, 258) {
+            self.plan_send();
+        }
+        if self.random.chance(60) {
+            self.plan_line(COMMIT.into());
+            if self.random.chance(60) {
+                self.plan_reports(message_number, message_number + 255);
+            }
+        }
+        self.left = 80;
+    }
+
+    fn plan_large_bodies(&mut self, message_number: u64) {
+        let length = self.random.pick(&[16_384, 21_845, 32_768, 60_000, 65_535, 65_536]);
+        for _ in 0..65_536 / length {
+            let body = self.bytes(length);
+            self.plan_line(format!("send {body}"));
+        }
+        if self.random.chance(50) {
+            self.plan_line(COMMIT.into());
+            self.plan_reports(message_number, message_number);
+        }
+        self.left = 25;
+    }
+
+    /// All that a queue takes, in any order, and then what sets it free.
+    fn plan_long_queue(&mut self, remote: u64) {
+        let mut numbers: Vec<u64> = (2..=self.random.between(254, 258)).map(|n| remote + n).collect();
+        for at in (1..numbers.len()).rev() {
+            numbers.swap(at, self.random.below(at as u64 + 1) as usize);
+        }
+        let length = self.random.pick(&[0, 1, 127, 128, 128]);
+        for number in numbers {
+            let (status, kind, body) = (self.random.below(2), self.random.below(3), self.bytes(length));
+            self.plan_line(format!("data {status} {number} {kind} {body}"));
+        }
+        match self.random.below(3) {
+            0 => self.plan_line(format!("data 1 {} 0 aa", remote + 1)),
+            1 => {
+                self.plan_line(format!("data 0 {} 0 aa", remote + 1));
+                let mode = self.random.pick(&[0, 3, 4]);
+                self.plan_line(format!("ready 1 {mode}"));
+            }
+            _ => {}
+        }
+        self.left = 80;
+    }
+
+    /// Waiting acks and queued messages together come to 512.
+    fn plan_many_waiting(&mut self, remote: u64) {
+        let queued = self.random.pick(&[0, 0, 100, 255, 256]);
+        let waiting = 512 - queued;
+        for n in 1..=waiting {
+            self.plan_line(format!("data 1 {} 0 -", remote + n));
+        }
+        for n in 0..queued {
+            self.plan_line(format!("data 0 {} 0 -", remote + waiting + 2 + n));
+        }
+        for n in [0, 1, queued + 1, queued + 2] {
+            self.plan_line(format!("data 1 {} 0 -", remote + waiting + n));
+        }
+        if self.random.chance(50) {
+            for _ in 0..256 {
+                self.plan_line("send aa".into());
+            }
+            self.plan_line(COMMIT.into());
+        }
+        self.left = 60;
     }
 
     /// The completion of what a prepare would return now.
@@ -467,7 +481,7 @@ impl Generator {
 
     fn plan_reports(&mut self, from: u64, to: u64) {
         for number in from..=to {
-            self.planned.push_back(format!("report 0 {number} 1"));
+            self.plan_line(format!("report 0 {number} 1"));
         }
     }
 
@@ -555,8 +569,12 @@ impl Generator {
                 format!("complete {generation} {} {} {persisted}", r.edge(), r.edge())
             }
             _ => {
-                let (outbound, remote) =
-                    self.random.pick(&[(u64::MAX, 0), (0, u64::MAX), (u64::MAX - 1, u64::MAX - 1), (u64::MAX, u64::MAX)]);
+                let (outbound, remote) = self.random.pick(&[
+                    (u64::MAX, 0),
+                    (0, u64::MAX),
+                    (u64::MAX - 1, u64::MAX - 1),
+                    (u64::MAX, u64::MAX),
+                ]);
                 format!("complete {} {outbound} {remote} {persisted}", self.random.pick(&[0, s.generation]))
             }
         }
@@ -607,7 +625,19 @@ impl Generator {
 
     /// A line that is no call, or a call written unusually.
     fn broken(&mut self, s: &Summary) -> String {
-        let word = self.random.pick(&[Send, Data, Ack, Ready, Accept, Command, Complete, Connectivity, Report, Restore, Fetch]);
+        let word = self.random.pick(&[
+            Send,
+            Data,
+            Ack,
+            Ready,
+            Accept,
+            Command,
+            Complete,
+            Connectivity,
+            Report,
+            Restore,
+            Fetch,
+        ]);
         let good = self.make(word, s);
         let space = good.find(' ').expect("the call has a field");
         match self.random.below(16) {
@@ -620,17 +650,37 @@ impl Generator {
             6 => good[..space].into(),
             7 => good.to_uppercase(),
             8 => format!("{}x{}", &good[..space], &good[space..]),
-            9 => self.random.pick(&["", " ", "-", "?", "start", "poke", "poke generation", "poke generation 4294967296", "states"]).into(),
-            10 => format!("ack {}", self.random.pick(&["-1", "+1", "18446744073709551616", "99999999999999999999", "1.0", "0x1", ""])),
+            9 => self
+                .random
+                .pick(&["", " ", "-", "?", "start", "poke", "poke generation", "poke generation 4294967296", "states"])
+                .into(),
+            10 => format!(
+                "ack {}",
+                self.random.pick(&["-1", "+1", "18446744073709551616", "99999999999999999999", "1.0", "0x1", ""])
+            ),
             11 => format!("{} 000{}", self.random.pick(&["ack", "fetch", "report 0 1"]), self.random.below(2)),
-            12 => format!("data {} 1 0 {}", self.random.between(6, 9), self.random.pick(&["a", "AA", "aa", "a-", "--", ""])),
-            13 => format!("complete {} 0 0 {}", self.random.between(4_294_967_294, 4_294_967_297), self.random.below(3)),
-            14 => format!("command {} 0 {} {}", self.random.below(2), self.random.below(2), self.random.pick(&["-", "aa"])),
+            12 => format!(
+                "data {} 1 0 {}",
+                self.random.between(6, 9),
+                self.random.pick(&["a", "AA", "aa", "a-", "--", ""])
+            ),
+            13 => {
+                format!("complete {} 0 0 {}", self.random.between(4_294_967_294, 4_294_967_297), self.random.below(3))
+            }
+            14 => format!(
+                "command {} 0 {} {}",
+                self.random.below(2),
+                self.random.below(2),
+                self.random.pick(&["-", "aa"])
+            ),
             _ if self.random.below(60) == 0 => {
                 let length = self.random.between(299_995, 300_001) as usize;
                 format!("send {}", "0".repeat(length - 5))
             }
-            _ => format!("connectivity 5 {} 0", self.random.pick(&["0", "000000000000000", "00000000000000000", "7FF8000000000000"])),
+            _ => format!(
+                "connectivity 5 {} 0",
+                self.random.pick(&["0", "000000000000000", "00000000000000000", "7FF8000000000000"])
+            ),
         }
     }
 
@@ -690,8 +740,12 @@ impl Generator {
     fn inbound_body(&mut self, s: &Summary) -> String {
         let room = s.policy_bytes.saturating_sub(s.queue_bytes);
         let length = match self.random.below(24) {
-            0 if s.policy_body <= 512 || self.random.chance(20) => self.random.near(s.policy_body as u64 + 2).saturating_sub(2) as usize,
-            1 | 2 if room <= 512 || self.random.chance(20) => self.random.near(room as u64 + 2).saturating_sub(2) as usize,
+            0 if s.policy_body <= 512 || self.random.chance(20) => {
+                self.random.near(s.policy_body as u64 + 2).saturating_sub(2) as usize
+            }
+            1 | 2 if room <= 512 || self.random.chance(20) => {
+                self.random.near(room as u64 + 2).saturating_sub(2) as usize
+            }
             3 => self.random.below(200) as usize,
             _ => (self.random.below(4) as usize).min(s.policy_body),
         };

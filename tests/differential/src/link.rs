@@ -19,13 +19,8 @@ const LAST_MESSAGE_NUMBER: u64 = u32::MAX as u64;
 
 pub const DISPOSITIONS: [&str; 5] = ["other", "active", "proposal-received", "inbound-reject", "outbound-reject"];
 const EVENTS: [&str; 5] = ["disconnected", "reconnected", "peer-unavailable", "registered", "peer-available"];
-const MODES: [ReceiveMode; 5] = [
-    ReceiveMode::Raw,
-    ReceiveMode::Proposal,
-    ReceiveMode::Channel,
-    ReceiveMode::Rejection,
-    ReceiveMode::Retiring,
-];
+const MODES: [ReceiveMode; 5] =
+    [ReceiveMode::Raw, ReceiveMode::Proposal, ReceiveMode::Channel, ReceiveMode::Rejection, ReceiveMode::Retiring];
 const AWAY: Status = Status { available: false, established: false, discarding: false };
 
 /// Document 01 ports a session whose channel is None.

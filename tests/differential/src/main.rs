@@ -46,6 +46,7 @@ const USAGE: &str = "usage: oracle < SCRIPT
        oracle --linkrun [MESSAGE_NUMBER] < SCRIPT
        traps [PROGRAM | --script]
        gen SEED CALLS
+       gen --covering SCRIPTS LONGEST_SESSION
        run [--seed SEED] [--program PROGRAM | --coverage] CALLS";
 
 fn usage() -> ! {
@@ -124,6 +125,10 @@ fn main() -> std::io::Result<()> {
             Ok(())
         }
         ["traps", program] => check_traps(Some(program)),
+        ["gen", "--covering", scripts, longest_session] => {
+            let script = coverage::covering_script(parse(scripts), parse(longest_session) as usize);
+            std::io::stdout().write_all(&script)
+        }
         ["gen", seed, calls] => {
             let script = generate::script(parse(seed), parse(calls) as usize);
             std::io::stdout().write_all(&script.text())
