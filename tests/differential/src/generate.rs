@@ -262,7 +262,11 @@ impl Generator {
             _ => {}
         }
         let reject = self.short_body_of_at_least_one();
-        let unacked = self.unacked(message_number);
+        let unacked = match self.subject {
+            // Numbers used up and no room either: 21 comes first.
+            LastMessageNumbers if self.random.chance(20) => many_unacked(256),
+            _ => self.unacked(message_number),
+        };
         let mut line = format!(
             "start {message_number} {remote} {disposition} {} {} {} {} {reject} {unacked}",
             policy[0], policy[1], policy[2], policy[3]
@@ -325,10 +329,9 @@ impl Generator {
             3 => format!("2 {last} aa {} bb", last - 1),
             4 => format!("1 {} -", self.random.edge()),
             5 => {
-                // One message or one byte too many, or neither.
+                // One message too many, or not, and the same with a byte below.
                 let count = self.random.between(255, 257);
-                let held = (1..=count).map(|n| format!(" {n} -"));
-                format!("{count}{}", held.collect::<String>())
+                many_unacked(count)
             }
             _ => {
                 let room = self.random.between(65_535, 65_537) as usize;
@@ -445,6 +448,14 @@ impl Generator {
         }
         for n in 0..queued {
             self.plan_line(format!("data 0 {} 0 -", remote + waiting + 2 + n));
+        }
+        if queued == 0 && self.random.chance(50) {
+            // Records that nobody prepared: 20 are acked, ten of them then count as not released.
+            self.plan_line(format!("complete 2 0 {} 0", remote + 20));
+            self.plan_line(format!("complete 3 0 {} 0", remote + 10));
+            for n in (513..=532).chain([15, 10, 11, 512]) {
+                self.plan_line(format!("data 1 {} 0 -", remote + n));
+            }
         }
         for n in [0, 1, queued + 1, queued + 2] {
             self.plan_line(format!("data 1 {} 0 -", remote + waiting + n));
@@ -773,4 +784,10 @@ impl Generator {
         crate::script::write_hex(&body, &mut hex);
         String::from_utf8(hex).expect("hex is text")
     }
+}
+
+/// A record's messages: so many empty ones.
+fn many_unacked(count: u64) -> String {
+    let held: String = (1..=count).map(|n| format!(" {n} -")).collect();
+    format!("{count}{held}")
 }
