@@ -293,7 +293,7 @@ impl Generator {
         let policy = format!("{} {} {} {}", p[0], p[1], p[2], p[3]);
         let [gap, messages, bytes, body] = p;
         let r = &mut self.random;
-        match r.below(11) {
+        match r.below(12) {
             0 => format!("start {} {remote} {disp} {policy} {reject} 0", r.pick(&[0, 4_294_967_297, u64::MAX])),
             1 => format!("start {mn} {} {disp} {policy} {reject} {unacked}", u64::MAX),
             2 => format!("start {mn} {remote} {} {policy} {reject} {unacked}", r.pick(&[5, 6, u64::MAX])),
@@ -303,6 +303,7 @@ impl Generator {
             6 => format!("start {mn} {remote} {disp} {policy} - {unacked}"),
             7 => format!("start {mn} {remote} {disp} {policy} {} {unacked}", self.bytes(65)),
             8 => format!("start {mn} {remote} {disp} {policy} {} {unacked}", self.bytes(64)),
+            9 => format!("start 258 {remote} {disp} {policy} {reject} {}", many_unacked(r.between(255, 257))),
             _ => format!("start {mn} {remote} {disp} {policy} {reject} {}", self.bad_unacked(mn)),
         }
     }
@@ -684,9 +685,10 @@ impl Generator {
                 self.random.below(2),
                 self.random.pick(&["-", "aa"])
             ),
-            _ if self.random.below(60) == 0 => {
-                let length = self.random.between(299_995, 300_001) as usize;
-                format!("send {}", "0".repeat(length - 5))
+            _ if self.random.below(20) == 0 => {
+                let word = self.random.pick(&["ack ", "fetch ", "send "]);
+                let length = self.random.between(299_999, 300_001) as usize;
+                format!("{word}{}", "0".repeat(length - word.len()))
             }
             _ => format!(
                 "connectivity 5 {} 0",
