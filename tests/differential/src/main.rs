@@ -1,6 +1,7 @@
 //! The differential harness: the unchanged Rust of the peer link behind the call script.
 use std::io::{Read, Write};
 
+mod arguments;
 mod compare;
 mod coverage;
 mod generate;
@@ -12,6 +13,7 @@ mod program;
 mod random;
 mod refusals;
 mod script;
+mod starts;
 mod traps;
 mod view;
 
