@@ -1,13 +1,12 @@
 -- The numbers in use, and a number put at its place. Assumes nothing.
 use mathlib.Core.Path.{_≡_, refl, sym, ap, _∙_}
 use mathlib.Core.Bool.{true}
-use mathlib.Core.List.{List, [], _∷_, _++_}
+use mathlib.Core.List.{List, _∷_, _++_}
 use Prim.Native.Nat.{ℕ, zero, suc, _+_, _-_, _≤_, _<_}
 use native.Mathlib.Omega.{arith}
 use lib.ListN.{length, take, drop, getD, set, length-append, length-take, length-drop, length-set}
 use lib.Seq.{slice, length-take-le, getD-take}
 use Rattle.stores.specs.Placed.{placed}
-use Rattle.stores.specs.Fronts.{front}
 use Rattle.stores.proofs.Laws.{length-placed}
 use Rattle.stores.proofs.Packs.{slice-step, opened}
 use Rattle.stores.proofs.Seats.{Seated, seated}
@@ -16,7 +15,7 @@ use Rattle.rules.specs.Sound.{ascending}
 use Rattle.rules.proofs.Lists as Lists
 use Rattle.rules.proofs.Inboxes as Inboxes
 use Rattle.numbers.specs.declared.Numbers.{Numbers}
-use Rattle.numbers.specs.Seats.{inUse, under, seatOf, ExactNumbers, Holds}
+use Rattle.numbers.specs.Seats.{inUse, seatOf, ExactNumbers, Holds}
 
 pub exact-length : (v : Numbers) → ExactNumbers v → length (inUse v) ≡ v .count
 exact-length v e = length-take-le (v .count) (v .values) (omega (arith, e .full, e .few))

@@ -2,27 +2,25 @@
 use mathlib.Core.Path.{_≡_, refl, sym, ap, _∙_, subst}
 use mathlib.Core.Bool.{Bool, true, false, not}
 use mathlib.Core.List.{List, [], _∷_, _++_, map}
-use Prim.Native.Nat.{ℕ, suc, _+_, _*_, _≤_, _<_}
+use Prim.Native.Nat.{ℕ, _+_, _*_, _≤_, _<_}
 use native.Mathlib.Omega.{arith}
 use native.Mathlib.Numerals.{add-one}
-use lib.ListN.{length, take, getD, set, length-append}
-use lib.Seq.{take-suc, length-take-le}
-use lib.Dec.{ltb, leb, eqb}
+use lib.ListN.{length, take, getD, set}
+use lib.Seq.{take-suc}
+use lib.Dec.{ltb, leb}
 use borrow.Author.Tests.{eq-eqb, ne-eqb, le-leb, lt-leb}
 use Rattle.stores.specs.Placed.{placed}
 use Rattle.stores.proofs.Packs.{map-append}
 use Rattle.stores.proofs.Sifts.{Sifted, sifted-none, sifted-at, sifted-more, sifted-all, kept-next}
 use Rattle.rules.specs.Lists.{if_then_else_, kept}
-use Rattle.rules.specs.State.{Unacked}
 use Rattle.rules.specs.Events.{Event, send-ack, listed}
 use Rattle.rules.specs.Buffers.{flat}
 use Rattle.rules.specs.Acks.{differs-from}
 use Rattle.rules.specs.Commits.{releases-ack}
-use Rattle.events.specs.Written.{ListedIn, Listed}
+use Rattle.events.specs.Written.{Listed}
 use Rattle.events.proofs.Laws.{listed-none, listed-then}
 use Rattle.numbers.specs.declared.Numbers.{Numbers}
-use Rattle.numbers.specs.declared.Released.{Released}
-use Rattle.numbers.specs.Seats.{inUse, step, ExactNumbers, Holds, ReleasesAcks}
+use Rattle.numbers.specs.Seats.{inUse, step, Holds, ReleasesAcks}
 
 -- ---- what stays
 

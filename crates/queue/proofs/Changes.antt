@@ -1,12 +1,11 @@
 -- A frame put in, and a front taken out: bytes, records, and both. Assumes nothing.
 use mathlib.Core.Path.{_≡_, refl, sym, ap, _∙_}
 use mathlib.Core.List.{List, [], _∷_, _++_, map, append-assoc}
-use Prim.Native.Nat.{ℕ, _+_, _-_, _≤_, _<_}
+use Prim.Native.Nat.{ℕ, _+_, _-_, _≤_}
 use native.Mathlib.Omega.{arith}
 use lib.ListN.{length, take, drop, set, replicate, length-append, length-take, length-drop, length-replicate, length-set, drop-of-length-le}
 use lib.Seq.{take-take}
 use Rattle.stores.specs.Placed.{placed}
-use Rattle.stores.specs.Packed.{cut}
 use Rattle.rules.specs.Buffers.{repacked}
 use Rattle.stores.proofs.Laws.{length-placed, take-placed-le, take-placed-end, drop-placed, drop-placed-ge}
 use Rattle.stores.proofs.Packs.{packed-cut, map-append, map-take, map-drop, take-cut, drop-cut, total-split, drop-take, opened, repacked-grown, repacked-shrunk}
@@ -18,7 +17,7 @@ use Rattle.queue.specs.declared.Queued.{Queued}
 use Rattle.queue.specs.declared.Queue.{Queue}
 use Rattle.queue.specs.View.{lenQ, frame, recordQ, usedQ, framesOf, endQ, ExactQueue, Repacked}
 use Rattle.queue.specs.Steps.{Room, with-at}
-use Rattle.queue.proofs.View.{packQ, used-length, frames-length, frames-records, repacked-is}
+use Rattle.queue.proofs.View.{frames-length, frames-records, repacked-is}
 
 -- ---- bytes
 

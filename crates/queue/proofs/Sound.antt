@@ -1,6 +1,6 @@
 -- A sound queue has sound frames, and the other way. Assumes nothing.
-use mathlib.Core.Path.{_≡_, refl, sym, ap, _∙_}
-use mathlib.Core.Bool.{Bool, true, false, _&&_}
+use mathlib.Core.Path.{_≡_, refl}
+use mathlib.Core.Bool.{true}
 use mathlib.Core.List.{List, [], _∷_}
 use Prim.Native.Nat.{ℕ, _+_, _-_, _≤_, _<_}
 use native.Mathlib.Omega.{arith}
@@ -12,7 +12,7 @@ use Rattle.stores.specs.Packed.{cut}
 use Rattle.stores.specs.Admitted.{admitted}
 use Rattle.stores.proofs.Chains.{two}
 use Rattle.rules.specs.declared.Policy.{Policy}
-use Rattle.rules.specs.Lists.{Bytes, every, all, total, rising}
+use Rattle.rules.specs.Lists.{Bytes, all, total, rising}
 use Rattle.rules.specs.Limits.{last-remote, session-reject, max-queued-messages, max-queued-bytes, max-peer-body}
 use Rattle.rules.specs.State as R
 use Rattle.rules.specs.State.{frame-number, frame-size}

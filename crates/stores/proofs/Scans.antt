@@ -1,11 +1,10 @@
 -- A loop over the elements from index i up to, not including, index n: what is asked of them, by the test of the first. Assumes nothing.
 use mathlib.Core.Path.{_≡_, ap, _∙_}
 use mathlib.Core.Bool.{Bool, true, false, _||_, _&&_}
-use mathlib.Core.List.{List, [], _∷_}
+use mathlib.Core.List.{List}
 use Prim.Native.Nat.{ℕ, suc, _+_, _≤_, _<_}
 use lib.ListN.{length, getD}
 use lib.Seq.{slice}
-use lib.Dec.{ltb}
 use borrow.Author.Tests.{lt-ltb, le-ltb}
 use Rattle.rules.specs.Lists.{if_then_else_, any, all, rising}
 use Rattle.stores.specs.Admitted.{admitted}

@@ -2,13 +2,13 @@
 use mathlib.Core.Path.{_≡_, refl, sym, ap, _∙_}
 use mathlib.Core.Bool.{Bool, true, false, _||_, true≢false}
 use mathlib.Core.List.{List, [], _∷_, _++_}
-use Prim.Native.Nat.{ℕ, zero, suc, _+_, _≤_, _<_}
+use Prim.Native.Nat.{ℕ, suc, _≤_, _<_}
 use native.Mathlib.Omega.{arith}
 use lib.ListN.{length, take, drop, getD}
 use lib.Dec.{ltb, leb, eqb}
-use borrow.Author.Tests.{le-leb, lt-leb, lt-ltb, le-ltb, leb-true, leb-false, ltb-true, ltb-false, eqb-true, eqb-false}
+use borrow.Author.Tests.{lt-ltb, le-ltb, leb-true, leb-false, ltb-true, ltb-false, eqb-false}
 use Rattle.rules.specs.Lists.{if_then_else_, any, kept, put, rising}
-use Rattle.rules.proofs.Lists.{if-rule, both, and-left, and-right, kept-all, rising-from}
+use Rattle.rules.proofs.Lists.{if-rule, and-left, and-right}
 use Rattle.stores.specs.Fronts.{front}
 
 pub front-within : {A : Type 0} (p : A → Bool) (xs : List A) → front p xs ≤ length xs

@@ -4,14 +4,14 @@
 use mathlib.Core.Path.{_≡_, refl, sym, ap, _∙_}
 use mathlib.Core.Bool.{Bool, true, false}
 use mathlib.Core.List.{List, [], _∷_, _++_, append-nil}
-use Prim.Native.Nat.{ℕ, suc, _+_, _≤_, _<_}
+use Prim.Native.Nat.{ℕ, _+_, _≤_, _<_}
 use native.Mathlib.Omega.{arith}
 use native.Mathlib.Nat.{add-zero}
 use native.Mathlib.Numerals.{add-one}
 use lib.ListN.{length, take, drop, getD, set, length-set}
 use lib.Seq.{take-suc, take-set-le, drop-set-lt, getD-drop, drop-drop, length-take-le}
 use Rattle.rules.specs.Lists.{if_then_else_, kept}
-use Rattle.rules.proofs.Lists.{kept-append, kept-length}
+use Rattle.rules.proofs.Lists.{kept-append}
 use Rattle.stores.proofs.Packs.{take-set-snoc}
 
 pub record Sifted {A : Type 0} (p : A → Bool) (l₀ : List A) (n : ℕ) (l : List A) (i k : ℕ) : Type 0 where

@@ -1,7 +1,6 @@
 use mathlib.Core.Path.{sym, ap}
 use borrow.Author.Tests.{lt-ltb, le-ltb}
 use Rattle.numbers.specs.Seats.{step}
-use borrow.Author.Needs.{needs}
 use Rattle.numbers.proofs.later.Statement.{statement}
 use Rattle.numbers.proofs.later.Tie as tie
 use Rattle.numbers.proofs.later.Reads as reads

@@ -1,4 +1,3 @@
-use mathlib.Core.Path.{sym}
 use Rattle.numbers.proofs.Passes.{listed-chosen, listed-passed}
 use borrow.Author.Needs.{needs}
 use Rattle.numbers.proofs.list_one.Statement.{statement}

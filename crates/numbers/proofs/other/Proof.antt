@@ -1,5 +1,4 @@
 use Rattle.numbers.proofs.Passes.{step-same, step-other}
-use borrow.Author.Needs.{needs}
 use Rattle.numbers.proofs.other.Statement.{statement}
 use Rattle.numbers.proofs.other.Tie as tie
 use Rattle.numbers.proofs.other.Reads as reads

@@ -1,6 +1,6 @@
 use Prim.Native.Nat.{_-_, _+_, _≤_}
 use native.Mathlib.Omega.{arith}
-use mathlib.Core.Path.{_≡_, refl, sym, _∙_}
+use mathlib.Core.Path.{_≡_}
 use lib.ListN.{length, take}
 use lib.Seq.{slice}
 use Rattle.stores.proofs.Packs.{unmapped}

@@ -1,8 +1,9 @@
 use Rattle.stores.proofs.Packs.{unmapped}
 use Rattle.peer_session.specs.Sound.{Full}
-use mathlib.Core.Path.{_≡_, refl, sym, _∙_}
+use Prim.Native.Nat.{ℕ}
+use mathlib.Core.Path.{_≡_, refl, sym, ap, _∙_}
 use borrow.Author.Tests.{not-true, not-false}
-use Rattle.peer_session.specs.Sound.{soundOf}
+use Rattle.peer_session.specs.Sound.{soundSizes, soundOf}
 use Rattle.stores.proofs.Chains.{le-skip, le-stop, lt-skip, lt-stop, is-skip, is-stop}
 use borrow.Author.Needs.{needs}
 use Rattle.peer_session.proofs.sound.Statement.{statement}
@@ -67,7 +68,7 @@ sound-sizes-requires c κs = search needs
 -- src/lib.rt:293:1
 returns-4 : tie.Need-returns-4
 unfolding soundOf
-returns-4 c = record { is = sym (is-skip _ _ _ (sym (c .before .before .before .before .before .before .before .before .before .before .before .sound-outbox .ensures) ∙ not-false _ (c .before .before .before .before .before .before .before .before .before .before .if1 .left)) (is-skip _ _ _ (sym (c .before .before .before .before .before .before .before .sound-queue .ensures) ∙ not-false _ (c .before .before .before .before .before .before .if2 .left)) (is-skip _ _ _ (sym (c .before .before .before .sound-acks .ensures) ∙ not-false _ (c .before .before .if3 .left)) (sym (c .sound-sizes .ensures))))); full = full (c .before .before .before .before .before .before .before .before .before .before .before .before .before) }
+returns-4 c = record { is = sym (is-skip _ _ _ (sym (c .before .before .before .before .before .before .before .before .before .before .before .sound-outbox .ensures) ∙ not-false _ (c .before .before .before .before .before .before .before .before .before .before .if1 .left)) (is-skip _ _ _ (sym (c .before .before .before .before .before .before .before .sound-queue .ensures) ∙ not-false _ (c .before .before .before .before .before .before .if2 .left)) (is-skip _ _ _ (sym (c .before .before .before .sound-acks .ensures) ∙ not-false _ (c .before .before .if3 .left)) (sym (c .sound-sizes .ensures ∙ ap (λ (n : ℕ). soundSizes (c .before .before .before .before .before .before .before .before .before .before .before .before .before .args .s .stage .disposition) n (c .before .before .before .before .before .before .before .before .before .before .before .before .before .args .s .reject .len)) (c .before .handoff-length .ensures)))))); full = full (c .before .before .before .before .before .before .before .before .before .before .before .before .before) }
 
 pub sound-spec : {M : Type 1} → statement M
 sound-spec =

@@ -1,4 +1,4 @@
-use Prim.Native.Nat.{_-_, _≤_}
+use Prim.Native.Nat.{_≤_}
 use native.Mathlib.Omega.{arith}
 use Rattle.queue.specs.Steps.{arrived}
 use Rattle.queue.proofs.Changes.{start-within, inserted}

@@ -1,5 +1,5 @@
 use Rattle.stores.proofs.Runs.{Run, lower-none, lower-more, run-all}
-use Prim.Native.Nat.{ℕ, _-_, _+_, _≤_}
+use Prim.Native.Nat.{ℕ, _-_, _+_}
 use native.Mathlib.Omega.{arith}
 use native.Mathlib.Nat.{zero-add}
 use mathlib.Core.Path.{_≡_, subst}

@@ -1,10 +1,9 @@
 use Rattle.stores.proofs.Runs.{raise-none, raise-more}
-use Prim.Native.Nat.{_-_, _+_, _≤_}
+use Prim.Native.Nat.{_-_, _+_}
 use native.Mathlib.Omega.{arith}
-use mathlib.Core.Path.{_≡_, sym, _∙_}
-use lib.ListN.{length, take, drop, length-take, length-drop}
-use lib.Seq.{getD-take, getD-drop}
-use Rattle.stores.proofs.Runs.{Down, down-none, down-more, down-all, down-before}
+use mathlib.Core.Path.{_≡_}
+use lib.ListN.{length, take, drop}
+use Rattle.stores.proofs.Runs.{Down, down-all}
 use Rattle.queue.specs.View.{blankQ}
 use borrow.Author.Needs.{needs}
 use Rattle.queue.proofs.shift_up.Statement.{statement}

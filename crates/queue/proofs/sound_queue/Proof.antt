@@ -1,7 +1,6 @@
-use mathlib.Core.Path.{_≡_, refl, sym, _∙_}
-use borrow.Author.Tests.{not-true, not-false}
+use mathlib.Core.Path.{sym}
 use Rattle.queue.specs.Sound.{soundQueue}
-use Rattle.stores.proofs.Chains.{le-skip, le-stop, lt-skip, lt-stop, is-skip, is-stop}
+use Rattle.stores.proofs.Chains.{le-skip, le-stop}
 use borrow.Author.Needs.{needs}
 use Rattle.queue.proofs.sound_queue.Statement.{statement}
 use Rattle.queue.proofs.sound_queue.Tie as tie
