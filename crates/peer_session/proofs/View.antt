@@ -5,7 +5,7 @@ use mathlib.Core.List.{List, [], _∷_, _++_, map}
 use mathlib.Core.Option.{Option, none, some}
 use Prim.Native.Nat.{ℕ, _+_, _-_, _≤_}
 use native.Mathlib.Omega.{arith}
-use lib.ListN.{length, take}
+use lib.ListN.{length, take, replicate, length-replicate}
 use lib.Seq.{length-take-le}
 use lib.Dec.{leb}
 use borrow.Author.Tests.{le-leb, leb-true}
@@ -23,11 +23,11 @@ use Rattle.stores.specs.Packed.{cut}
 use Rattle.numbers.specs.declared.Numbers.{Numbers}
 use Rattle.numbers.specs.Seats.{inUse, ExactNumbers}
 use Rattle.numbers.proofs.Laws.{exact-length}
-use Rattle.outbox.specs.View.{outboxOf, unackedOf}
+use Rattle.outbox.specs.View.{outboxOf, unackedOf, ExactOutbox}
 use Rattle.outbox.specs.Sound.{soundOutbox}
 use Rattle.outbox.proofs.View.{exact-count, exact-records, unacked-of, sound-outbox-good, good-sound-outbox}
 use Rattle.queue.specs.declared.Queued.{Queued}
-use Rattle.queue.specs.View.{lenQ, frame, recordQ, framesOf}
+use Rattle.queue.specs.View.{lenQ, frame, recordQ, framesOf, ExactQueue}
 use Rattle.queue.specs.Sound.{soundQueue}
 use Rattle.queue.proofs.View.{packQ, frames-length, frames-records}
 use Rattle.queue.proofs.Sound.{GoodQueue, sound-queue-good, good-sound-queue}
@@ -44,7 +44,7 @@ handed-size h full few = go (h .present) few
   where
     go : (b : Bool) → (if b then h .len else 0) ≤ 4096
         → (if b then h .len else 0)
-          ≡ handoff-size (if b then some (record { id = h .id; number = h .number; body = take (h .len) (h .body); sent = h .sent; acknowledged = h .acknowledged }) else none)
+        ≡ handoff-size (if b then some (record { id = h .id; number = h .number; body = take (h .len) (h .body); sent = h .sent; acknowledged = h .acknowledged }) else none)
     go true e = sym (length-take-le (h .len) (h .body) (omega arith))
     go false e = refl
 
@@ -193,3 +193,34 @@ module _ (s : SessionState) (o q : Bytes) where
       (and-both (leb (s .stage .disposition) 4) _ (le-leb _ _ (t .2 .code))
       (and-both (leb (handoff-length (s .handoff)) 4096) _ (le-leb _ _ (e .rest .handed))
       (and-both (leb 1 (s .reject .len)) _ (le-leb _ _ j1) (le-leb _ _ (e .rest .rejects)))))))
+
+-- ---- the parts of a sound session, for what a call asks of them
+
+pub record Parts (s : SessionState) : Type 0 where
+  pub outbox : soundOutbox (s .outbox) ≡ true
+  pub unacked : (o : Bytes) → 65536 ≤ length o → ExactOutbox (s .outbox) (length o)
+  pub queued : (q : Bytes) → 32768 ≤ length q → ExactQueue (s .queue) (length q)
+  pub waiting : ExactNumbers (s .waiting)
+  pub retry : ExactNumbers (s .retry)
+  pub first : 1 ≤ s .outbox .next
+  pub end : s .outbox .next ≤ 4294967296
+
+pub parts : (s : SessionState) → soundOf s ≡ true → Full s → Parts s
+unfolding soundOf
+parts s e full =
+    let o : Bytes = replicate 65536 0 in
+    let q : Bytes = replicate 32768 0 in
+    let lo : length o ≡ 65536 = length-replicate {A = ℕ} 65536 0 in
+    let lq : length q ≡ 32768 = length-replicate {A = ℕ} 32768 0 in
+    let g : Good s o q = sound-good s o q e full (omega arith) (omega arith) in
+    let a = two (soundOutbox (s .outbox)) _ e in
+    let b = two (soundQueue (s .policy) (s .remote) (s .queue)) _ (a .1) in
+    record {
+      outbox = a .0;
+      unacked = λ x h. sound-outbox-good (s .outbox) x (a .0) (full .unacked) h .1;
+      queued = λ x h. sound-queue-good (fixedOf s) (s .remote) (s .queue) x (b .0) (full .queue) h .exact;
+      waiting = g .exact .rest .waiting;
+      retry = g .exact .rest .retry;
+      first = g .sound .0 .one;
+      end = g .sound .0 .end;
+    }

@@ -1,3 +1,5 @@
 -- The laws of the promises.
 pub mod Promises
+pub mod Lengths
+pub mod Entry
 pub mod Queries

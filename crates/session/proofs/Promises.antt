@@ -1,6 +1,6 @@
 -- The promise, test by test, and how a call that follows the rule book meets it. Assumes nothing.
 use mathlib.Core.Path.{_≡_, refl, sym, ap, _∙_}
-use mathlib.Core.Bool.{Bool, true, false}
+use mathlib.Core.Bool.{Bool, true, false, not, _&&_}
 use mathlib.Core.List.{List, [], _∷_, _++_}
 use Prim.Native.Nat.{ℕ, _+_, _-_, _*_, _≤_, max}
 use native.Mathlib.Omega.{arith}
@@ -12,7 +12,8 @@ use Rattle.rules.specs.declared.Answer.{Answer}
 use Rattle.rules.specs.declared.Answer.the-variants.{Refused}
 use Rattle.rules.specs.declared.Refusal.{Refusal}
 use Rattle.rules.specs.declared.Refusal.the-variants.{ShortBuffer, UnknownCode, BadRecord}
-use Rattle.rules.specs.Lists.{Bytes, if_then_else_, packed}
+use lib.Dec.{eqb}
+use Rattle.rules.specs.Lists.{Bytes, if_then_else_, empty, packed}
 use Rattle.rules.specs.State.{Unacked, State, body-of, frame-body}
 use Rattle.rules.specs.Events.{Event, handed, listed}
 use Rattle.rules.specs.Progress.{Outcome, outcome}
@@ -96,6 +97,18 @@ queue-same {t} {o} {q} h = repacked-same (queue-end t) (packed frame-body (t .in
 pub reach-same : (s t : State) → s .outbox .next ≡ t .outbox .next → outbound-reach s t ≡ outbound-end s
 unfolding outbound-reach
 reach-same s t e = rw (eq-eqb (s .outbox .next) (t .outbox .next) e)
+
+-- nor where something is left unacked
+pub reach-some : (s t : State) → empty (t .outbox .unacked) ≡ false → outbound-reach s t ≡ outbound-end s
+unfolding outbound-reach
+reach-some s t e =
+    ap (λ (b : Bool). if b then max (outbound-end s) (length (s .fixed .reject)) else outbound-end s)
+    (ap (λ (b : Bool). not (eqb (s .outbox .next) (t .outbox .next)) && not (eqb (s .clock .generation) (t .clock .generation)) && b) e
+    ∙ and-false (not (eqb (s .outbox .next) (t .outbox .next)) && not (eqb (s .clock .generation) (t .clock .generation))))
+  where
+    and-false : (b : Bool) → (b && false) ≡ false
+    and-false true = refl
+    and-false false = refl
 
 same-taken : (b : Bool) (x y : List ℕ) → x ≡ y → y ≡ where-taken b x y
 same-taken true x y e = sym e

@@ -1,0 +1,2 @@
+-- The laws of a send.
+pub mod Sends

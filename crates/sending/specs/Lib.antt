@@ -1,0 +1,1 @@
+-- The contracts of `sending` cite the promises of `session`.
