@@ -1,0 +1,64 @@
+-- The laws of fields, and of a line that is gathered. Assumes nothing.
+use mathlib.Core.Path.{_≡_, refl, sym, ap, _∙_}
+use mathlib.Core.Bool.{Bool, true, false}
+use mathlib.Core.List.{List, [], _∷_}
+use Prim.Native.Nat.{ℕ, _+_, _≤_, _<_}
+use native.Mathlib.Omega.{arith}
+use native.Mathlib.Nat.{add-zero}
+use native.Mathlib.Numerals.{add-one}
+use lib.Dec.{leb, eqb}
+use lib.ListN.{length, drop, getD, drop-of-length-le}
+use lib.Seq.{drop-cons}
+use borrow.Author.Tests.{le-leb, lt-leb, eq-eqb, ne-eqb}
+use Rattle.rules.specs.Lists.{before}
+use Rattle.stores.specs.Placed.{placed}
+use Rattle.text.specs.Fields.{one, is, placeOf, Found, grownSize, grown, Grown}
+
+-- a list from an index on, by its element there
+pub drop-here : (s : List ℕ) (i : ℕ) → i < length s → drop i s ≡ getD s i 0 ∷ drop (i + 1) s
+drop-here s i h = rw (add-one, drop-cons s i 0)
+
+-- What a loop keeps that looks for b from index at on: it is not before index i
+pub record Seeking (b : ℕ) (s : List ℕ) (at i : ℕ) : Type 0 where
+  pub from : at ≤ i
+  pub within : i ≤ length s
+  pub left : placeOf b s i ≡ placeOf b s at
+
+pub seeking-none : (b : ℕ) (s : List ℕ) (at : ℕ) → at ≤ length s → Seeking b s at at
+seeking-none b s at h = record { from = omega arith; within = h; left = refl }
+
+module _ {b : ℕ} {s : List ℕ} {at i : ℕ} (r : Seeking b s at i) where
+  pub seeking-more : i < length s → (getD s i 0 ≡ b → ⊥) → Seeking b s at (i + 1)
+  unfolding placeOf before
+  seeking-more h f =
+      let e : before one (is b) (drop i s) ≡ 1 + before one (is b) (drop (i + 1) s) = ap (before one (is b)) (drop-here s i h) ∙ rw (ne-eqb (getD s i 0) b f) in
+      let here : placeOf b s i ≡ placeOf b s (i + 1) = omega (arith, e) in
+      record { from = omega arith; within = omega arith; left = sym here ∙ r .left }
+
+  found : placeOf b s i ≡ i → Found b s at i
+  found e = record { place = sym e ∙ r .left; from = r .from; within = r .within }
+
+  pub seeking-here : i < length s → getD s i 0 ≡ b → Found b s at i
+  unfolding placeOf before
+  seeking-here h f =
+      let e : before one (is b) (drop i s) ≡ 0 = ap (before one (is b)) (drop-here s i h) ∙ rw (eq-eqb (getD s i 0) b f) in
+      found (omega (arith, e))
+
+  pub seeking-all : length s ≤ i → Found b s at i
+  unfolding placeOf before
+  seeking-all h =
+      let e : before one (is b) (drop i s) ≡ 0 = ap (before one (is b)) (drop-of-length-le s h) in
+      found (omega (arith, e))
+
+module _ (line : List ℕ) (n : ℕ) (part : List ℕ) where
+  pub grown-long : length line < n + length part → Grown line n part (length line + 1) line
+  unfolding grownSize grown
+  grown-long h =
+      let e : leb (n + length part) (length line) ≡ false = lt-leb _ _ h in
+      record { size = rw e; bytes = rw e }
+
+  pub grown-fits : (line′ : List ℕ) → n + length part ≤ length line → line′ ≡ placed line n part → Grown line n part (n + length part) line′
+  unfolding grownSize grown
+  grown-fits line′ h f =
+      let e : leb (n + length part) (length line) ≡ true = le-leb _ _ h in
+      record { size = rw e; bytes = rw e f }

@@ -1,0 +1,35 @@
+-- The fields of a line, one space between two of them, and a line that is gathered from parts of the input. Assumes nothing.
+use Prim.Native.Nat.{ℕ, _+_, _≤_}
+use mathlib.Core.Path.{_≡_}
+use mathlib.Core.Bool.{Bool}
+use mathlib.Core.List.{List, [], _∷_}
+use lib.Dec.{leb, eqb}
+use lib.ListN.{length, take, drop}
+use Rattle.rules.specs.Lists.{if_then_else_, before}
+use Rattle.stores.specs.Placed.{placed}
+
+abbrev pub one : ℕ → ℕ
+one x = 1
+
+abbrev pub is : ℕ → ℕ → Bool
+is b x = eqb x b
+
+-- the index of the first b from index at on, or the length
+unfoldable pub placeOf : ℕ → List ℕ → ℕ → ℕ
+placeOf b s at = at + before one (is b) (drop at s)
+
+pub record Found (b : ℕ) (s : List ℕ) (at r : ℕ) : Type 0 where
+  pub place : r ≡ placeOf b s at
+  pub from : at ≤ r
+  pub within : r ≤ length s
+
+-- a line of the size n in a buffer, with a part after it; one more than the buffer's size stands for a line that is too long
+unfoldable pub grownSize : List ℕ → ℕ → List ℕ → ℕ
+grownSize line n part = if leb (n + length part) (length line) then (n + length part) else (length line + 1)
+
+unfoldable pub grown : List ℕ → ℕ → List ℕ → List ℕ
+grown line n part = if leb (n + length part) (length line) then placed line n part else line
+
+pub record Grown (line : List ℕ) (n : ℕ) (part : List ℕ) (r : ℕ) (line′ : List ℕ) : Type 0 where
+  pub size : r ≡ grownSize line n part
+  pub bytes : line′ ≡ grown line n part
