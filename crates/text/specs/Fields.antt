@@ -1,11 +1,11 @@
 -- The fields of a line, one space between two of them, and a line that is gathered from parts of the input. Assumes nothing.
-use Prim.Native.Nat.{ℕ, _+_, _≤_}
+use Prim.Native.Nat.{ℕ, _+_, _-_, _≤_}
 use mathlib.Core.Path.{_≡_}
 use mathlib.Core.Bool.{Bool}
 use mathlib.Core.List.{List, [], _∷_}
 use lib.Dec.{leb, eqb}
 use lib.ListN.{length, take, drop}
-use Rattle.rules.specs.Lists.{if_then_else_, before}
+use Rattle.rules.specs.Lists.{if_then_else_, before, same}
 use Rattle.stores.specs.Placed.{placed}
 
 abbrev pub one : ℕ → ℕ
@@ -22,6 +22,14 @@ pub record Found (b : ℕ) (s : List ℕ) (at r : ℕ) : Type 0 where
   pub place : r ≡ placeOf b s at
   pub from : at ≤ r
   pub within : r ≤ length s
+
+-- the field that starts at index at
+unfoldable pub fieldOf : List ℕ → ℕ → List ℕ
+fieldOf s at = take (placeOf 32 s at - at) (drop at s)
+
+-- the first field is the word w
+unfoldable pub hasWord : List ℕ → List ℕ → Bool
+hasWord s w = same (fieldOf s 0) w
 
 -- a line of the size n in a buffer, with a part after it; one more than the buffer's size stands for a line that is too long
 unfoldable pub grownSize : List ℕ → ℕ → List ℕ → ℕ

@@ -2,14 +2,16 @@
 ghost use mathlib.Core.Path.{_≡_};
 ghost use mathlib.Core.Bool.{true};
 ghost use mathlib.Core.List.{[], _∷_};
-ghost use Prim.Native.Nat.{_+_, _*_, _≤_, _<_};
-ghost use lib.ListN.{length};
-ghost use Rattle.rules.specs.Lists.{all};
+ghost use Prim.Native.Nat.{_+_, _-_, _*_, _≤_, _<_};
+ghost use lib.ListN.{length, take, drop};
+ghost use Rattle.rules.specs.Lists.{all, same};
 ghost use Rattle.stores.specs.Placed.{placed};
-ghost use Rattle.text.specs.Fields.{Found, Grown};
+ghost use Rattle.text.specs.Fields.{Found, hasWord, Grown};
+ghost use Rattle.text.specs.Filled.{filledOf, Filling};
 ghost use Rattle.text.specs.Hex.{pairs, isDash, isPairs, Decoded};
 ghost use Rattle.text.specs.Numbers.{digitOf, isDigit, onward, numberOf, decimalOf, hex16Of};
 ghost use Rattle.text.specs.Output.{glyphOf, hexByte, Put};
+ghost use Rattle.text.specs.Taken.{takenOf, after};
 
 pub enum Number {
     Value(u64),
@@ -18,6 +20,17 @@ pub enum Number {
 
 pub enum Bytes {
     Count(usize),
+    Wrong,
+}
+
+// A field's number or bytes, and the index where the field ends: that of a space, or the line's length after the last field.
+pub enum Taken {
+    Value(u64, usize),
+    Wrong,
+}
+
+pub enum Filled {
+    Count(usize, usize),
     Wrong,
 }
 
@@ -174,6 +187,91 @@ pub fn find(s: &[u8], at: usize, b: u8) -> usize
         i += 1;
     }
     i
+}
+
+fn part(s: &[u8], a: usize, e: usize) -> &[u8]
+    requires { ⌜ (a ≤ e) × (e ≤ length (now s)) ⌝ }
+    ensures { λ r. ⌜ now r ≡ take (e - a) (drop a (now (s .entry))) ⌝ }
+{
+    &s[a..e]
+}
+
+fn same_bytes(a: &[u8], b: &[u8]) -> bool
+    ensures { λ r. ⌜ r ≡ same (now (a .entry)) (now (b .entry)) ⌝ }
+{
+    if a.len() != b.len() {
+        return false;
+    }
+    let mut i = 0;
+    while i < a.len() {
+        if a[i] != b[i] {
+            return false;
+        }
+        i += 1;
+    }
+    true
+}
+
+// Whether the first field is the word w, which then ends at index w.len().
+pub fn has_word(s: &[u8], w: &[u8]) -> bool
+    ensures { λ r. ⌜ r ≡ hasWord (now (s .entry)) (now (w .entry)) ⌝ }
+{
+    let e = find(s, 0, 32);
+    same_bytes(part(s, 0, e), w)
+}
+
+fn with_end(n: Number, end: usize) -> Taken
+    ensures { λ r. ⌜ r ≡ takenOf n end ⌝ }
+{
+    match n {
+        Number::Value(v) => Taken::Value(v, end),
+        Number::Wrong => Taken::Wrong,
+    }
+}
+
+// The functions .._after read the field after the one that ends at index end; there is none after the line's last.
+pub fn decimal_after(s: &[u8], end: usize) -> Taken
+    ensures { λ r. ⌜ r ≡ after decimalOf (now (s .entry)) end ⌝ }
+{
+    if s.len() <= end {
+        return Taken::Wrong;
+    }
+    let at = end + 1;
+    let e = find(s, at, 32);
+    with_end(decimal(part(s, at, e)), e)
+}
+
+pub fn hex16_after(s: &[u8], end: usize) -> Taken
+    ensures { λ r. ⌜ r ≡ after hex16Of (now (s .entry)) end ⌝ }
+{
+    if s.len() <= end {
+        return Taken::Wrong;
+    }
+    let at = end + 1;
+    let e = find(s, at, 32);
+    with_end(hex16(part(s, at, e)), e)
+}
+
+fn bytes_end(b: Bytes, end: usize) -> Filled
+    ensures { λ r. ⌜ r ≡ filledOf b end ⌝ }
+{
+    match b {
+        Bytes::Count(n) => Filled::Count(n, end),
+        Bytes::Wrong => Filled::Wrong,
+    }
+}
+
+// Where the field is wrong or longer than out, out stays as it is.
+pub fn hex_after(s: &[u8], end: usize, out: &mut [u8]) -> Filled
+    ensures { λ r. ⌜ Filling (now (s .entry)) end (now (out .entry)) r (now (out .exit)) ⌝ }
+{
+    if s.len() <= end {
+        return Filled::Wrong;
+    }
+    let at = end + 1;
+    let e = find(s, at, 32);
+    let b = hex(part(s, at, e), out);
+    bytes_end(b, e)
 }
 
 // Puts part after the n bytes of a line. A line that line does not hold stays out, and has the size line.len() + 1.
