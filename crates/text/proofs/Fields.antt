@@ -1,17 +1,17 @@
 -- The laws of fields, and of a line that is gathered. Assumes nothing.
-use mathlib.Core.Path.{_≡_, refl, sym, ap, _∙_}
+use mathlib.Core.Path.{_≡_, refl, sym, ap, subst, _∙_}
 use mathlib.Core.Bool.{Bool, true, false, _&&_}
 use mathlib.Core.List.{List, [], _∷_}
 use Prim.Native.Nat.{ℕ, suc, _+_, _-_, _≤_, _<_}
 use native.Mathlib.Omega.{arith}
 use native.Mathlib.Numerals.{add-one}
-use lib.Dec.{leb, eqb}
+use lib.Dec.{leb, ltb, eqb}
 use lib.ListN.{length, take, drop, getD, drop-of-length-le}
 use lib.Seq.{drop-cons}
-use borrow.Author.Tests.{le-leb, lt-leb, eq-eqb, ne-eqb}
+use borrow.Author.Tests.{le-leb, lt-leb, lt-ltb, le-ltb, eq-eqb, ne-eqb}
 use Rattle.rules.specs.Lists.{before, same}
 use Rattle.stores.specs.Placed.{placed}
-use Rattle.text.specs.Fields.{one, is, placeOf, Found, fieldOf, hasWord, grownSize, grown, Grown}
+use Rattle.text.specs.Fields.{one, is, placeOf, Found, fieldOf, hasWord, grownSize, grown, Grown, partOf, Gathered}
 
 -- a list from an index on, by its element there
 pub drop-here : (s : List ℕ) (i : ℕ) → i < length s → drop i s ≡ getD s i 0 ∷ drop (i + 1) s
@@ -114,3 +114,20 @@ module _ {a b : List ℕ} {i : ℕ} (m : Matching a b i) where
 pub word-is : (s w p : List ℕ) (e : ℕ) {t : Bool} → Found 32 s 0 e → p ≡ take (e - 0) (drop 0 s) → t ≡ same p w → t ≡ hasWord s w
 unfolding hasWord
 word-is s w p e f g h = h ∙ ap (λ (l : List ℕ). same l w) (g ∙ field-part s 0 e f)
+
+-- ---- a line from chunks
+
+module _ (chunk : List ℕ) (at : ℕ) {buffer line′ : List ℕ} {n e size : ℕ} (f : Found 10 chunk at e) (p : List ℕ) (g : p ≡ take (e - at) (drop at chunk))
+    (w : Grown buffer n p size line′) where
+  part-grown : Grown buffer n (partOf chunk at) size line′
+  part-grown = subst (λ (l : List ℕ). Grown buffer n l size line′) (g ∙ ap (λ (k : ℕ). take (k - at) (drop at chunk)) (f .place)) w
+
+  pub gathered-whole : e < length chunk → Gathered chunk at buffer n (record { size = size; next = e + 1; whole = true }) line′
+  gathered-whole h =
+      let t : ltb (placeOf 10 chunk at) (length chunk) ≡ true = subst (λ (k : ℕ). ltb k (length chunk) ≡ true) (f .place) (lt-ltb e (length chunk) h) in
+      record { line = part-grown; whole = sym t; next = ap (λ (k : ℕ). k + 1) (f .place); on = λ l. omega (arith, f .from); within = omega arith }
+
+  pub gathered-part : length chunk ≤ e → Gathered chunk at buffer n (record { size = size; next = e; whole = false }) line′
+  gathered-part h =
+      let t : ltb (placeOf 10 chunk at) (length chunk) ≡ false = subst (λ (k : ℕ). ltb k (length chunk) ≡ false) (f .place) (le-ltb e (length chunk) h) in
+      record { line = part-grown; whole = sym t; next = omega (arith, f .within); on = λ l. omega (arith, f .from); within = f .within }

@@ -1,12 +1,13 @@
 -- The fields of a line, one space between two of them, and a line that is gathered from parts of the input. Assumes nothing.
-use Prim.Native.Nat.{ℕ, _+_, _-_, _≤_}
+use Prim.Native.Nat.{ℕ, _+_, _-_, _≤_, _<_}
 use mathlib.Core.Path.{_≡_}
 use mathlib.Core.Bool.{Bool}
 use mathlib.Core.List.{List, [], _∷_}
-use lib.Dec.{leb, eqb}
+use lib.Dec.{leb, ltb, eqb}
 use lib.ListN.{length, take, drop}
 use Rattle.rules.specs.Lists.{if_then_else_, before, same}
 use Rattle.stores.specs.Placed.{placed}
+use Rattle.text.specs.declared.Piece.{Piece}
 
 abbrev pub one : ℕ → ℕ
 one x = 1
@@ -41,3 +42,15 @@ grown line n part = if leb (n + length part) (length line) then placed line n pa
 pub record Grown (line : List ℕ) (n : ℕ) (part : List ℕ) (r : ℕ) (line′ : List ℕ) : Type 0 where
   pub size : r ≡ grownSize line n part
   pub bytes : line′ ≡ grown line n part
+
+-- a part of the input that ends at the first line end from index at on, or with the chunk
+abbrev pub partOf : List ℕ → ℕ → List ℕ
+partOf chunk at = take (placeOf 10 chunk at - at) (drop at chunk)
+
+-- a line in a buffer after the part of a chunk from index at on: its size and bytes, whether it is whole, and where the chunk goes on
+pub record Gathered (chunk : List ℕ) (at : ℕ) (buffer : List ℕ) (n : ℕ) (r : Piece) (line′ : List ℕ) : Type 0 where
+  pub line : Grown buffer n (partOf chunk at) (r .size) line′
+  pub whole : r .whole ≡ ltb (placeOf 10 chunk at) (length chunk)
+  pub next : r .next ≡ (if r .whole then (placeOf 10 chunk at + 1) else (length chunk))
+  pub on : at < length chunk → at < r .next
+  pub within : r .next ≤ length chunk

@@ -6,7 +6,7 @@ ghost use Prim.Native.Nat.{_+_, _-_, _*_, _≤_, _<_};
 ghost use lib.ListN.{length, take, drop};
 ghost use Rattle.rules.specs.Lists.{all, same};
 ghost use Rattle.stores.specs.Placed.{placed};
-ghost use Rattle.text.specs.Fields.{Found, hasWord, Grown};
+ghost use Rattle.text.specs.Fields.{Found, hasWord, Grown, Gathered};
 ghost use Rattle.text.specs.Filled.{filledOf, Filling};
 ghost use Rattle.text.specs.Hex.{pairs, isDash, isPairs, Decoded};
 ghost use Rattle.text.specs.Numbers.{digitOf, isDigit, onward, numberOf, decimalOf, hex16Of};
@@ -32,6 +32,13 @@ pub enum Taken {
 pub enum Filled {
     Count(usize, usize),
     Wrong,
+}
+
+// A line so far: its size, or one more than its buffer's where it is too long; whether the line is whole; and the index where the chunk goes on.
+pub struct Piece {
+    pub size: usize,
+    pub next: usize,
+    pub whole: bool,
 }
 
 // What b stands for as a hex digit, and 16 where it is none.
@@ -287,6 +294,27 @@ pub fn gather(line: &mut [u8], n: usize, part: &[u8]) -> usize
     }
     stores::copy_in(line, n, part);
     n + part.len()
+}
+
+// Puts the bytes of chunk from index at on, up to a line end, after the n bytes of a line.
+pub fn gather_line(chunk: &[u8], at: usize, line: &mut [u8], n: usize) -> Piece
+    requires { ⌜ (at ≤ length (now chunk)) × (length (now line) < 18446744073709551615) ⌝ }
+    ensures { λ r. ⌜ Gathered (now (chunk .entry)) at (now (line .entry)) n r (now (line .exit)) ⌝ }
+{
+    let e = find(chunk, at, 10);
+    let size = gather(line, n, part(chunk, at, e));
+    if e < chunk.len() {
+        return Piece {
+            size: size,
+            next: e + 1,
+            whole: true,
+        };
+    }
+    Piece {
+        size: size,
+        next: e,
+        whole: false,
+    }
 }
 
 // The functions put_.. write at index n of out, and return the index after what they wrote.
