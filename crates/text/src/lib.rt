@@ -203,6 +203,16 @@ fn part(s: &[u8], a: usize, e: usize) -> &[u8]
     &s[a..e]
 }
 
+// The first n bytes of s, or all where it has fewer.
+pub fn front(s: &[u8], n: usize) -> &[u8]
+    ensures { λ r. ⌜ now r ≡ take n (now (s .entry)) ⌝ }
+{
+    if n <= s.len() {
+        return &s[..n];
+    }
+    s
+}
+
 fn same_bytes(a: &[u8], b: &[u8]) -> bool
     ensures { λ r. ⌜ r ≡ same (now (a .entry)) (now (b .entry)) ⌝ }
 {
