@@ -1,11 +1,11 @@
 -- The laws of numbers put into a buffer. Assumes nothing.
-use mathlib.Core.Path.{_≡_, refl, sym, ap, subst, _∙_}
+use mathlib.Core.Path.{_≡_, refl, subst}
 use mathlib.Core.Bool.{Bool, true, false}
 use mathlib.Core.List.{List}
-use Prim.Native.Nat.{ℕ, _+_, _-_, _^_, _≤_, _<_}
+use Prim.Native.Nat.{ℕ, _-_, _^_, _≤_, _<_}
 use native.Mathlib.Omega.{arith}
 use native.Mathlib.Nat.{pow-le-pow-right}
-use lib.Dec.{leb, lit≤, lit<}
+use lib.Dec.{leb, lit<}
 use lib.ListN.{length, take}
 use borrow.Author.Tests.{leb-true, leb-false}
 use Rattle.io.specs.Counts.{Counts}

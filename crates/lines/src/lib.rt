@@ -1,6 +1,5 @@
 // Standard input in chunks, and standard output through a buffer of 65,536 bytes that is written when it is full. What print_.. puts there
 // starts at index n, and they return the index after it; the caller ends with flush.
-ghost use mathlib.Core.Path.{_≡_};
 ghost use Prim.Native.Nat.{_+_, _≤_};
 ghost use lib.ListN.{length};
 ghost use Rattle.text.specs.Output.{Put};

@@ -1,6 +1,6 @@
 -- The laws of the field after an index. Assumes nothing.
-use mathlib.Core.Path.{_≡_, refl, sym, ap, subst, _∙_}
-use mathlib.Core.Bool.{Bool, true, false}
+use mathlib.Core.Path.{_≡_, ap, subst, _∙_}
+use mathlib.Core.Bool.{true, false}
 use mathlib.Core.List.{List}
 use Prim.Native.Nat.{ℕ, _+_, _-_, _≤_, _<_}
 use lib.Dec.{ltb}
@@ -12,7 +12,7 @@ use Rattle.text.specs.declared.Filled.the-variants.{Wrong as Filled·Wro
 use Rattle.text.specs.declared.Number.{Number}
 use Rattle.text.specs.declared.Taken.{Taken}
 use Rattle.text.specs.declared.Taken.the-variants.{Wrong as Taken·Wrong}
-use Rattle.text.specs.Fields.{placeOf, Found, fieldOf}
+use Rattle.text.specs.Fields.{Found, fieldOf}
 use Rattle.text.specs.Filled.{filledOf, bytesAfter, Filling}
 use Rattle.text.specs.Hex.{hexOf, fitting, countOf, Decoded}
 use Rattle.text.specs.Taken.{takenOf, after}

@@ -6,12 +6,11 @@ use Prim.Native.Nat.{ℕ, _+_, _-_, _*_, _/_, _≤_, _<_}
 use native.Mathlib.Omega.{arith}
 use native.Mathlib.Nat.{le-div-iff-mul-le, div-lt-iff-lt-mul, le-mul-of-pos-right}
 use native.Mathlib.Numerals.{add-one}
-use lib.Dec.{leb, ltb}
+use lib.Dec.{leb}
 use lib.ListN.{length, drop, getD, drop-of-length-le}
 use lib.Seq.{drop-cons}
-use borrow.Author.Tests.{ltb-true, ltb-false, leb-true, leb-false, lt-ltb, le-ltb, le-leb, lt-leb, eq-eqb, ne-eqb}
-use Rattle.rules.specs.Lists.{if_then_else_, all, empty}
-use Rattle.text.specs.declared.Number.{Number}
+use borrow.Author.Tests.{ltb-true, leb-true, leb-false, lt-ltb, le-ltb, le-leb, lt-leb, eq-eqb, ne-eqb}
+use Rattle.rules.specs.Lists.{if_then_else_, all}
 use Rattle.text.specs.declared.Number.the-variants.{Value, Wrong}
 use Rattle.text.specs.Numbers.{digitOf, isDigit, value, onward, numberOf, hex16Of}
 

@@ -2,11 +2,10 @@
 use mathlib.Core.Path.{_≡_, refl, sym, ap, subst, _∙_}
 use mathlib.Core.Bool.{Bool, true, false, not, _&&_}
 use mathlib.Core.List.{List, [], _∷_}
-use mathlib.Core.Option.{Option, none, some}
 use Prim.Native.Nat.{ℕ, zero, suc, _+_, _*_, _/_, _%_, _≤_, _<_}
 use native.Mathlib.Omega.{arith}
 use native.Mathlib.Nat.{zero-add}
-use lib.Dec.{leb, ltb, eqb}
+use lib.Dec.{leb, eqb}
 use lib.ListN.{length, drop, getD, set, drop-of-length-le}
 use borrow.Author.Tests.{ltb-true, lt-ltb, le-ltb, le-leb, lt-leb, eq-eqb, ne-eqb, eqb-true}
 use Rattle.rules.specs.Lists.{all, empty}
@@ -14,9 +13,8 @@ use Rattle.rules.proofs.Lists.{and-left, and-right}
 use Rattle.stores.specs.Placed.{placed}
 use Rattle.stores.proofs.Laws.{placed-none}
 use Rattle.stores.proofs.Runs.{Run, run-more}
-use Rattle.text.specs.declared.Bytes.{Bytes}
 use Rattle.text.specs.declared.Bytes.the-variants.{Count, Wrong}
-use Rattle.text.specs.Hex.{pairs, isDash, isPairs, hexOf, fitting, countOf, over, Decoded}
+use Rattle.text.specs.Hex.{pairs, isDash, isPairs, hexOf, fitting, Decoded}
 use Rattle.text.specs.Numbers.{digitOf, isDigit}
 use Rattle.text.proofs.Fields.{drop-here}
 

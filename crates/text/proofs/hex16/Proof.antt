@@ -1,4 +1,4 @@
-use mathlib.Core.Path.{_≡_, sym, _∙_}
+use mathlib.Core.Path.{sym, _∙_}
 use Rattle.text.proofs.Numbers.{hex16-other, hex16-whole}
 use borrow.Author.Needs.{needs}
 use Rattle.text.proofs.hex16.Statement.{statement}

@@ -1,5 +1,4 @@
 use mathlib.Core.Path.{sym, ap}
-use Prim.Native.Nat.{ℕ}
 use Rattle.text.specs.declared.Number.{Number}
 use Rattle.text.specs.Taken.{takenOf}
 use borrow.Author.Needs.{needs}
