@@ -1,0 +1,2 @@
+-- `Laws` has the laws of numbers put into a buffer.
+pub mod Laws
