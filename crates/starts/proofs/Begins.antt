@@ -1,13 +1,11 @@
 -- The session and the stores that a start leaves, and its promise. Assumes nothing.
 use mathlib.Core.Path.{_≡_, refl, sym, ap, _∙_}
-use mathlib.Core.Bool.{Bool, true, false, _&&_, _||_}
-use mathlib.Core.List.{List, [], _∷_, _++_, map, append-nil}
+use mathlib.Core.Bool.{Bool, true, false, _||_}
+use mathlib.Core.List.{List, [], _++_, map, append-nil}
 use Prim.Native.Nat.{ℕ, _+_, _-_, _≤_, _<_}
 use native.Mathlib.Omega.{arith}
-use native.Mathlib.Nat.{zero-add}
 use lib.ListN.{length, take, drop, replicate, length-append, length-replicate, length-map, drop-of-length-le}
-use lib.Seq.{length-take-le, take-append-seam}
-use lib.Dec.{ltb}
+use lib.Seq.{take-append-seam}
 use borrow.Author.Tests.{lt-ltb, le-ltb}
 use Rattle.rules.specs.declared.Answer.{Answer}
 use Rattle.rules.specs.declared.Answer.the-variants.{Done, Refused}
@@ -19,26 +17,23 @@ use Rattle.rules.specs.State as R
 use Rattle.rules.specs.State.{body-of}
 use Rattle.rules.specs.Start.{Reliable, Start, started, unstarted, start, new, as-sent}
 use Rattle.rules.specs.Buffers.{Lent, takes, short, filled, new-stores}
-use Rattle.stores.specs.Packed.{cut}
 use Rattle.stores.specs.Placed.{placed}
 use Rattle.stores.proofs.Laws.{placed-placed, length-placed}
-use Rattle.outbox.specs.declared.Unacked.{Unacked}
 use Rattle.outbox.specs.declared.Outbox.{Outbox}
-use Rattle.outbox.specs.View.{lenU, unacked, recordU, usedU, unackedOf}
+use Rattle.outbox.specs.View.{usedU}
 use Rattle.peer_session.specs.declared.RejectBody.{RejectBody}
 use Rattle.peer_session.specs.declared.SessionState.{SessionState}
-use Rattle.peer_session.specs.View.{Held, held, encode, stateOf, rejectOf}
-use Rattle.peer_session.specs.New.{New, nothing}
+use Rattle.peer_session.specs.View.{Held, encode, stateOf, rejectOf}
+use Rattle.peer_session.specs.New.{New}
 use Rattle.peer_session.proofs.Held.{agree}
 use Rattle.peer_session.proofs.Fresh.{new-state}
 use Rattle.session.specs.declared.Returned.{Returned}
-use Rattle.session.specs.Promise.{Exit, exit, lent}
+use Rattle.session.specs.Promise.{exit, lent}
 use Rattle.starts.specs.declared.Reliable as Code
-use Rattle.starts.specs.declared.Verdict.{Verdict}
 use Rattle.starts.specs.declared.Verdict.the-variants as Found
 use Rattle.starts.specs.Started.{messagesOf, short-record, begins, startPromise, Started}
-use Rattle.starts.specs.Records.{reliableOf, recordsOf, Recorded, Rejecting, Begun, verdictOf, NotStarted}
-use Rattle.starts.proofs.Messages.{Long, long-record, length-messages, messages-cut, packed-messages, records-messages}
+use Rattle.starts.specs.Records.{reliableOf, Recorded, Rejecting, Begun, verdictOf, NotStarted}
+use Rattle.starts.proofs.Messages.{Long, long-record, length-messages, packed-messages, recorded-messages, recorded-unacked}
 use Rattle.starts.proofs.Checks.{Good}
 
 -- ---- the stores
@@ -84,19 +79,18 @@ rejecting b bytes h e =
 module _ {x : Outbox} {policy : Policy} {j : RejectBody} {r : SessionState} (c : Code.Reliable) (ns ks : List ℕ) (reject : Bytes)
     (n : New x (c .«remote_number») (c .disposition) policy j r) (o : Recorded (c .«message_number») ns ks x) (k : Rejecting reject j) where
   pub begun-is : Begun c ns ks policy reject r
-  unfolding new encode unackedOf
+  unfolding new encode
   begun-is b e =
       let l : Long ns ks b = long-record ns ks b e in
       let ms : List R.Message = messagesOf ns ks b in
-      let us : unackedOf x b ≡ map as-sent ms = ap (λ (u : List Unacked). cut lenU unacked u b) (o .used) ∙ sym (messages-cut ns ks b) in
       let s : stateOf r b [] ≡ new (record { next = x .next; remote = c .«remote_number»; disposition = c .disposition; unacked = ms }) policy (rejectOf j) =
-      new-state n ms b [] us in
+      new-state n ms b [] (recorded-unacked o b) in
       agree
       (record {
         next = ap (λ (y : Outbox). y .next) (n .outbox) ∙ o .next-is;
         unackeds =
             ap (λ (y : Outbox). y .count) (n .outbox) ∙ o .count-is ∙ sym (length-messages ns ks b (l .enough)) ∙ sym (length-map ms as-sent);
-        unacked = ap usedU (n .outbox) ∙ o .used ∙ records-messages ns ks b l;
+        unacked = ap usedU (n .outbox) ∙ recorded-messages o b l;
         remote = n .number;
         released = n .released;
         queues = n .queue .none;

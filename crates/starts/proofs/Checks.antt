@@ -2,7 +2,7 @@
 use mathlib.Core.Path.{_≡_, refl, sym, ap, _∙_}
 use mathlib.Core.Bool.{Bool, true, false, not, _&&_, _||_}
 use mathlib.Core.List.{List, [], _∷_}
-use Prim.Native.Nat.{ℕ, zero, suc, _+_, _≤_, _<_}
+use Prim.Native.Nat.{ℕ, zero, suc, _≤_, _<_}
 use native.Mathlib.Omega.{arith}
 use lib.ListN.{length, take, getD}
 use lib.Dec.{leb, ltb}
@@ -11,11 +11,9 @@ use Rattle.rules.specs.declared.Policy.{Policy}
 use Rattle.rules.specs.declared.Refusal.{Refusal}
 use Rattle.rules.specs.declared.Refusal.the-variants.{ShortBuffer, UnknownCode, BadRecord}
 use Rattle.rules.specs.Lists.{Bytes, if_then_else_, every, total, itself, all, rising}
-use Rattle.rules.specs.State.{State}
-use Rattle.rules.specs.Start.{Reliable, Start, started, unstarted, start, new, good-messages, good-record, good-policy, good-reject}
+use Rattle.rules.specs.Start.{Reliable, started, unstarted, start, new, good-messages, good-record, good-policy, good-reject}
 use Rattle.rules.proofs.Lists.{and-left, and-right, Every, every-true}
 use Rattle.starts.specs.declared.Reliable as Code
-use Rattle.starts.specs.declared.Verdict.{Verdict}
 use Rattle.starts.specs.declared.Verdict.the-variants as Found
 use Rattle.starts.specs.Started.{messagesOf, short-record}
 use Rattle.starts.specs.Records.{reliableOf, under, GoodMessages, GoodRecord, Fitting, Beginning, verdictOf}

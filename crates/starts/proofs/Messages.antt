@@ -1,23 +1,24 @@
 -- The messages of a record against its slices: what good-messages asks of them, their records, and their bodies. Assumes nothing.
 use mathlib.Core.Path.{_≡_, refl, sym, ap, _∙_}
 use mathlib.Core.Bool.{Bool, true, false, _&&_, _||_}
-use mathlib.Core.List.{List, [], _∷_, _++_, map}
-use Prim.Native.Nat.{ℕ, zero, suc, _+_, _-_, _≤_, _<_}
+use mathlib.Core.List.{List, [], _∷_, map}
+use Prim.Native.Nat.{ℕ, suc, _+_, _-_, _≤_}
 use native.Mathlib.Omega.{arith}
-use lib.ListN.{length, take, drop, getD, length-drop, length-map}
-use lib.Seq.{length-take-le, take-length}
+use lib.ListN.{length, take, drop, length-drop}
+use lib.Seq.{length-take-le}
 use lib.Dec.{leb, ltb}
-use borrow.Author.Tests.{le-leb, lt-leb, lt-ltb, le-ltb, ltb-true, ltb-false, leb-true}
+use borrow.Author.Tests.{ltb-false}
 use Rattle.rules.specs.Lists.{Bytes, every, total, packed, itself, all, rising}
 use Rattle.rules.specs.State as R
-use Rattle.rules.specs.State.{Message, body-of}
+use Rattle.rules.specs.State.{body-of}
 use Rattle.rules.specs.Start.{good-messages, message-number, message-size, message-below, as-sent}
 use Rattle.stores.specs.Packed.{cut}
 use Rattle.stores.proofs.Packs.{packed-cut}
 use Rattle.outbox.specs.declared.Unacked.{Unacked}
-use Rattle.outbox.specs.View.{lenU, unacked, recordU}
+use Rattle.outbox.specs.declared.Outbox.{Outbox}
+use Rattle.outbox.specs.View.{lenU, unacked, recordU, usedU, unackedOf, endU, ExactOutbox}
 use Rattle.starts.specs.Started.{messagesOf, short-record}
-use Rattle.starts.specs.Records.{under, recordsOf, Fitting, GoodMessages}
+use Rattle.starts.specs.Records.{under, recordsOf, Fitting, Recorded}
 
 -- ---- refusal 1 of a record
 
@@ -126,3 +127,21 @@ good-slices next ns ks b l =
   where
     tests-cong : {p p′ q q′ r r′ s s′ : Bool} → p ≡ p′ → q ≡ q′ → r ≡ r′ → s ≡ s′ → every (p ∷ q ∷ r ∷ s ∷ []) ≡ every (p′ ∷ q′ ∷ r′ ∷ s′ ∷ [])
     tests-cong {p} {p′} {q} {q′} {r} {r′} {s} {s′} a b c d = rw (a, b, c, d)
+
+-- ---- an outbox that was made of the record
+
+module _ {next : ℕ} {ns ks : List ℕ} {x : Outbox} (r : Recorded next ns ks x) where
+  -- holds the records of the messages
+  pub recorded-messages : (b : Bytes) → Long ns ks b → usedU x ≡ map recordU (map as-sent (messagesOf ns ks b))
+  recorded-messages b l = r .used ∙ records-messages ns ks b l
+
+  -- and with the bodies, the messages
+  pub recorded-unacked : (b : Bytes) → unackedOf x b ≡ map as-sent (messagesOf ns ks b)
+  unfolding unackedOf
+  recorded-unacked b = ap (λ (us : List Unacked). cut lenU unacked us b) (r .used) ∙ sym (messages-cut ns ks b)
+
+  -- within the limits
+  pub recorded-exact : (size : ℕ) → Fitting ns ks → 65536 ≤ size → ExactOutbox x size
+  recorded-exact size f room =
+      let t : endU x ≡ total itself (take (length ns) ks) = ap (total lenU) (r .used) ∙ total-records ns ks (f .enough) in
+      record { full = r .full; few = omega (arith, r .count-is, f .few); small = omega (arith, f .small); room = room }

@@ -1,17 +1,16 @@
 -- What the loops over the record's slices keep: lengths counted down and summed, numbers that rise, records filled. Assumes nothing.
 use mathlib.Core.Path.{_≡_, refl, sym, ap, _∙_}
 use mathlib.Core.Bool.{Bool, true, false, _&&_}
-use mathlib.Core.List.{List, [], _∷_, _++_}
+use mathlib.Core.List.{List, [], _∷_}
 use Prim.Native.Nat.{ℕ, zero, suc, _+_, _-_, _≤_, _<_}
 use native.Mathlib.Omega.{arith}
-use lib.ListN.{length, take, drop, getD, set, replicate, length-replicate}
+use lib.ListN.{length, take, getD, set, replicate, length-replicate}
 use lib.Seq.{slice, take-length}
-use lib.Dec.{leb, ltb}
+use lib.Dec.{leb}
 use borrow.Author.Tests.{le-leb, lt-leb, lt-ltb, le-ltb}
 use Rattle.rules.specs.Lists.{total, itself, all, rising}
-use Rattle.stores.specs.Placed.{placed}
 use Rattle.stores.proofs.Packs.{total-step, total-none, total-split}
-use Rattle.stores.proofs.Laws.{take-placed-end, length-placed}
+use Rattle.stores.proofs.Laws.{take-placed-end}
 use Rattle.stores.proofs.Scans.{rises-on, rises-not, rises-none, all-on, all-not, all-none}
 use Rattle.stores.proofs.Runs.{Run, run-none, run-more, run-all}
 use Rattle.outbox.specs.declared.Unacked.{Unacked}

@@ -27,7 +27,7 @@ new-requires c κs = search needs
 
 -- src/lib.rt:240:1
 returns : tie.Need-returns
-returns c = begun-is (c .before .before .before .before .before .before .before .args .«record») (c .before .before .before .before .before .before .before .args .numbers .now) (c .before .before .before .before .before .before .before .args .lengths .now) (c .before .before .before .before .before .before .before .args .reject .now) (c .new .ensures) (c .before .before .before .records .ensures) (c .before .before .reject-body .ensures)
+returns c = begun-is _ _ _ _ (c .new .ensures) (c .before .before .before .records .ensures) (c .before .before .reject-body .ensures)
 
 pub begun-spec : {M : Type 1} → statement M
 begun-spec =

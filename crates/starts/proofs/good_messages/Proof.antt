@@ -11,7 +11,7 @@ use Rattle.starts.proofs.rise_below.Reads as rise-below-reads
 
 -- src/lib.rt:91:9
 returns : tie.Need-returns
-returns c = too-many (c .before .before .before .args .next) (c .before .before .before .args .numbers .now) (c .before .before .before .args .lengths .now) (c .if1 .taken)
+returns c = too-many _ _ _ (c .if1 .taken)
 
 -- src/lib.rt:93:9
 rise-below-requires : tie.Need-rise-below-requires
@@ -19,7 +19,7 @@ rise-below-requires c κs = search needs
 
 -- src/lib.rt:94:9
 returns-2 : tie.Need-returns-2
-returns-2 c = unordered (c .before .before .before .before .before .args .next) (c .before .before .before .before .before .args .numbers .now) (c .before .before .before .before .before .args .lengths .now) (sym (c .before .rise-below .ensures) ∙ not-true _ (c .if2 .taken))
+returns-2 c = unordered _ _ _ (sym (c .before .rise-below .ensures) ∙ not-true _ (c .if2 .taken))
 
 -- src/lib.rt:96:5
 fits-requires : tie.Need-fits-requires
@@ -27,7 +27,7 @@ fits-requires c κs = search needs
 
 -- src/lib.rt:85:1
 returns-3 : tie.Need-returns-3
-returns-3 c = by-size (c .before .before .before .before .before .before .args .next) (c .before .before .before .before .before .before .args .numbers .now) (c .before .before .before .before .before .before .args .lengths .now) (c .before .before .before .if1 .left) (sym (c .before .before .rise-below .ensures) ∙ not-false _ (c .before .if2 .left)) (c .fits2 .ensures)
+returns-3 c = by-size _ _ _ (c .before .before .before .if1 .left) (sym (c .before .before .rise-below .ensures) ∙ not-false _ (c .before .if2 .left)) (c .fits2 .ensures)
 
 pub good-messages-spec : {M : Type 1} → statement M
 good-messages-spec =

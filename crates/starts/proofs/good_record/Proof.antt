@@ -8,15 +8,15 @@ use Rattle.starts.proofs.good_messages.Reads as good-messages-reads
 
 -- src/lib.rt:105:9
 returns : tie.Need-returns
-returns c = number-none (c .before .before .before .before .args .«record») (c .before .before .before .before .args .numbers .now) (c .before .before .before .before .args .lengths .now) (c .if1 .taken)
+returns c = number-none _ _ _ (c .if1 .taken)
 
 -- src/lib.rt:108:9
 returns-2 : tie.Need-returns-2
-returns-2 c = number-high (c .before .before .before .before .before .before .args .«record») (c .before .before .before .before .before .before .args .numbers .now) (c .before .before .before .before .before .before .args .lengths .now) (c .before .before .if1 .left) (c .if2 .taken)
+returns-2 c = number-high _ _ _ (c .before .before .if1 .left) (c .if2 .taken)
 
 -- src/lib.rt:111:9
 returns-3 : tie.Need-returns-3
-returns-3 c = remote-high (c .before .before .before .before .before .before .before .before .args .«record») (c .before .before .before .before .before .before .before .before .args .numbers .now) (c .before .before .before .before .before .before .before .before .args .lengths .now) (c .before .before .before .before .if1 .left) (c .before .before .if2 .left) (c .if3 .taken)
+returns-3 c = remote-high _ _ _ (c .before .before .before .before .if1 .left) (c .before .before .if2 .left) (c .if3 .taken)
 
 -- src/lib.rt:113:5
 good-messages-requires : tie.Need-good-messages-requires
@@ -24,7 +24,7 @@ good-messages-requires c κs = search needs
 
 -- src/lib.rt:100:1
 returns-4 : tie.Need-returns-4
-returns-4 c = by-messages (c .before .before .before .before .before .before .before .before .before .args .«record») (c .before .before .before .before .before .before .before .before .before .args .numbers .now) (c .before .before .before .before .before .before .before .before .before .args .lengths .now) (c .before .before .before .before .before .if1 .left) (c .before .before .before .if2 .left) (c .before .if3 .left) (c .good-messages .ensures)
+returns-4 c = by-messages _ _ _ (c .before .before .before .before .before .if1 .left) (c .before .before .before .if2 .left) (c .before .if3 .left) (c .good-messages .ensures)
 
 pub good-record-spec : {M : Type 1} → statement M
 good-record-spec =
