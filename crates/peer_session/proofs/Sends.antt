@@ -10,7 +10,7 @@ use lib.Dec.{ltb}
 use borrow.Author.Tests.{lt-ltb, le-ltb}
 use Rattle.rules.specs.declared.Refusal.{Refusal}
 use Rattle.rules.specs.declared.Refusal.the-variants.{NumbersExhausted, UnackedFull}
-use Rattle.rules.specs.Lists.{Bytes, if_then_else_, empty, total, packed}
+use Rattle.rules.specs.Lists.{Bytes, if_then_else_, total, packed}
 use Rattle.rules.specs.State as R
 use Rattle.rules.specs.State.{body-of, size-of, outbox-is, disposition-is}
 use Rattle.rules.specs.Clock.{raised}
@@ -60,10 +60,6 @@ module _ (b : Bytes) (d : ℕ) (t : R.State) where
 
 -- ---- the code
 
-snoc-some : {A : Type 0} (xs : List A) (y : A) → empty (xs ++ (y ∷ [])) ≡ false
-snoc-some [] y = refl
-snoc-some (x ∷ xs) y = refl
-
 module _ (b : Bytes) (x : Outbox) (o : Bytes) (exact : ExactOutbox x (length o)) where
   -- a refusal, whichever test gave it
   refuses : (y : Refusal) → ((t : R.State) (d : ℕ) → t .outbox ≡ outboxOf x o → allocate b d t ≡ halts y t) → Allocates b x o (record { outbox = x; stop = By y }) o
@@ -74,7 +70,6 @@ module _ (b : Bytes) (x : Outbox) (o : Bytes) (exact : ExactOutbox x (length o))
         bytes = sym (repacked-same (endU x) (packed body-of (unackedOf x o)) o (packed-unacked x o) (ap length (packed-unacked x o) ∙ length-take-le (endU x) o (omega (arith, exact))));
         size = refl;
         kept = λ z e. refl;
-        some = λ e. let z : _≡_ {A = ℕ} 0 1 = cc in absurd (omega arith);
       }
 
   pub spent : 4294967295 < x .next → Allocates b x o (record { outbox = x; stop = By NumbersExhausted }) o
@@ -102,5 +97,4 @@ module _ (b : Bytes) (x : Outbox) (o : Bytes) (exact : ExactOutbox x (length o))
           bytes = a .repacked .bytes ∙ ap (λ (ms : List R.Unacked). repacked (endU x) (packed body-of ms) o) (sym us);
           size = a .repacked .size;
           kept = λ y e. let z : _≡_ {A = ℕ} 0 1 = cc in absurd (omega arith);
-          some = λ e. ap empty us ∙ snoc-some (unackedOf x o) (fresh (x .next) b);
         }

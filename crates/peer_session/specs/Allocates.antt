@@ -3,8 +3,7 @@ use Prim.Native.Nat.{ℕ}
 use mathlib.Core.Path.{_≡_}
 use lib.ListN.{length}
 use Rattle.rules.specs.declared.Refusal.{Refusal}
-use mathlib.Core.Bool.{false}
-use Rattle.rules.specs.Lists.{Bytes, empty, packed}
+use Rattle.rules.specs.Lists.{Bytes, packed}
 use Rattle.rules.specs.State as R
 use Rattle.rules.specs.State.{body-of, outbox-is, disposition-is}
 use Rattle.rules.specs.Clock.{raised}
@@ -29,4 +28,3 @@ pub record Allocates (b : Bytes) (x : Outbox) (o : Bytes) (r : Allocated) (o′ 
   pub bytes : o′ ≡ repacked (endU x) (packed body-of (unackedOf (r .outbox) o′)) o
   pub size : length o′ ≡ length o
   pub kept : (y : Refusal) → r .stop ≡ By y → o′ ≡ o
-  pub some : r .stop ≡ No → empty (unackedOf (r .outbox) o′) ≡ false

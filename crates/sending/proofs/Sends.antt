@@ -31,7 +31,7 @@ use Rattle.peer_session.specs.Allocates.{grown, Allocates}
 use Rattle.peer_session.proofs.View.{exact-held}
 use Rattle.session.specs.declared.Returned.{Returned}
 use Rattle.session.specs.Promise.{lent, Called, Turned}
-use Rattle.session.proofs.Promises.{list-written, Follows, reach-some}
+use Rattle.session.proofs.Promises.{list-written, Follows}
 use Rattle.session.proofs.Lengths.{short-list, short-outbound, long-enough, not-taken}
 use Rattle.session.proofs.Entry.{Entered, entered, is-short, is-unsound, meets, is-refused}
 
@@ -130,6 +130,6 @@ module _ (s : SessionState) (l : List ℕ) (o b d q : Bytes) where
               delivery = refl;
               outbound =
                   done .bytes
-                  ∙ ap (λ (k : ℕ). repacked k (packed body-of us) o) (exact-total (s .outbox) o (ex .outbox) ∙ sym (reach-some (stateOf s o q) (stateOf next o′ q) (done .some e)));
+                  ∙ ap (λ (k : ℕ). repacked k (packed body-of us) o) (exact-total (s .outbox) o (ex .outbox));
               queue = refl;
             })

@@ -1,26 +1,24 @@
 -- The promise, test by test, and how a call that follows the rule book meets it. Assumes nothing.
 use mathlib.Core.Path.{_≡_, refl, sym, ap, _∙_}
-use mathlib.Core.Bool.{Bool, true, false, not, _&&_}
+use mathlib.Core.Bool.{Bool, true, false}
 use mathlib.Core.List.{List, [], _∷_, _++_}
 use Prim.Native.Nat.{ℕ, _+_, _-_, _*_, _≤_, max}
 use native.Mathlib.Omega.{arith}
 use native.Mathlib.Nat.{zero-add}
 use lib.ListN.{length, take, drop, replicate, take-append-drop}
-use borrow.Author.Tests.{eq-eqb}
 use Rattle.stores.specs.Placed.{placed}
 use Rattle.rules.specs.declared.Answer.{Answer}
 use Rattle.rules.specs.declared.Answer.the-variants.{Refused}
 use Rattle.rules.specs.declared.Refusal.{Refusal}
 use Rattle.rules.specs.declared.Refusal.the-variants.{ShortBuffer, UnknownCode, BadRecord}
-use lib.Dec.{eqb}
-use Rattle.rules.specs.Lists.{Bytes, if_then_else_, empty, packed}
+use Rattle.rules.specs.Lists.{Bytes, if_then_else_, packed}
 use Rattle.rules.specs.State.{Unacked, State, body-of, frame-body}
 use Rattle.rules.specs.Events.{Event, handed, listed}
 use Rattle.rules.specs.Progress.{Outcome, outcome}
 use Rattle.rules.specs.Calls.{Call, step}
 use Rattle.rules.proofs.Lists.{length-packed}
 use Rattle.rules.proofs.Buffers.{repacked-same}
-use Rattle.rules.specs.Buffers.{Lent, Takes, taken-by, short, wrong-code, over, flat, list-after, delivery-after, repacked, outbound-end, queue-end, outbound-reach, queue-reach, outbound-after, queue-after, where-taken, lent-after}
+use Rattle.rules.specs.Buffers.{Lent, Takes, taken-by, short, wrong-code, over, flat, list-after, delivery-after, repacked, outbound-end, queue-end, queue-reach, outbound-after, queue-after, where-taken, lent-after}
 use Rattle.events.specs.Written.{ListedIn}
 use Rattle.peer_session.specs.declared.SessionState.{SessionState}
 use Rattle.peer_session.specs.View.{Held, held, encode, stateOf}
@@ -72,7 +70,7 @@ pub record Follows (c : Call) (t : State) (l : Lent) (r : SessionState) (a : Ans
   pub count : n ≡ length events
   pub list : l′ .list ≡ where-taken (taken-by c .list) (over (flat (listed (left .outbox .unacked) 0 events)) (l .list)) (l .list)
   pub delivery : l′ .delivery ≡ where-taken (taken-by c .delivery) (over (packed handed events) (l .delivery)) (l .delivery)
-  pub outbound : l′ .outbound ≡ where-taken (taken-by c .outbound) (repacked (outbound-reach t left) (packed body-of (left .outbox .unacked)) (l .outbound)) (l .outbound)
+  pub outbound : l′ .outbound ≡ where-taken (taken-by c .outbound) (repacked (outbound-end t) (packed body-of (left .outbox .unacked)) (l .outbound)) (l .outbound)
   pub queue : l′ .queue ≡ where-taken (taken-by c .queue) (repacked (queue-reach c t) (packed frame-body (left .inbox .queue)) (l .queue)) (l .queue)
 
 pub follows-is : {c : Call} {t : State} {l : Lent} {r : SessionState} {a : Answer} {n : ℕ} {l′ : Lent} → short (taken-by c) l ≡ false → Follows c t l r a n l′
@@ -93,23 +91,6 @@ outbound-same {t} {o} h = repacked-same (outbound-end t) (packed body-of (t .out
 pub queue-same : {t : State} {o q : Bytes} → Stored t o q → repacked (queue-end t) (packed frame-body (t .inbox .queue)) q ≡ q
 queue-same {t} {o} {q} h = repacked-same (queue-end t) (packed frame-body (t .inbox .queue)) q (h .queue) (length-packed frame-body (t .inbox .queue))
 
--- nothing was sent and dropped where no number was given
-pub reach-same : (s t : State) → s .outbox .next ≡ t .outbox .next → outbound-reach s t ≡ outbound-end s
-unfolding outbound-reach
-reach-same s t e = rw (eq-eqb (s .outbox .next) (t .outbox .next) e)
-
--- nor where something is left unacked
-pub reach-some : (s t : State) → empty (t .outbox .unacked) ≡ false → outbound-reach s t ≡ outbound-end s
-unfolding outbound-reach
-reach-some s t e =
-    ap (λ (b : Bool). if b then max (outbound-end s) (length (s .fixed .reject)) else outbound-end s)
-    (ap (λ (b : Bool). not (eqb (s .outbox .next) (t .outbox .next)) && not (eqb (s .clock .generation) (t .clock .generation)) && b) e
-    ∙ and-false (not (eqb (s .outbox .next) (t .outbox .next)) && not (eqb (s .clock .generation) (t .clock .generation))))
-  where
-    and-false : (b : Bool) → (b && false) ≡ false
-    and-false true = refl
-    and-false false = refl
-
 same-taken : (b : Bool) (x y : List ℕ) → x ≡ y → y ≡ where-taken b x y
 same-taken true x y e = sym e
 same-taken false x y e = refl
@@ -129,7 +110,7 @@ refuses {c} {s} {l} {x} t h st r e =
       delivery = same-taken (taken-by c .delivery) (l .delivery) (l .delivery) refl;
       outbound =
           same-taken (taken-by c .outbound) _ (l .outbound)
-          (ap (λ (n : ℕ). repacked n (packed body-of (t .outbox .unacked)) (l .outbound)) (reach-same t t refl) ∙ outbound-same st);
+          (outbound-same st);
       queue =
           same-taken (taken-by c .queue) _ (l .queue)
           (ap (λ (n : ℕ). repacked n (packed frame-body (t .inbox .queue)) (l .queue)) r ∙ queue-same st);
