@@ -1,4 +1,4 @@
--- A chain of tests, and records that are admitted one after the other. Assumes nothing.
+-- Records of unacked messages that are admitted one after the other. Assumes nothing.
 use mathlib.Core.Path.{_≡_, refl, ap, _∙_}
 use mathlib.Core.Bool.{Bool, true, false, _&&_}
 use mathlib.Core.List.{List, [], _∷_}
@@ -9,51 +9,13 @@ use lib.Seq.{slice}
 use lib.Dec.{leb, ltb}
 use borrow.Author.Tests.{le-leb, lt-leb, lt-ltb, le-ltb, ltb-true, leb-true}
 use Rattle.stores.specs.Admitted.{admitted}
-use Rattle.stores.proofs.Packs.{slice-step, slice-none}
+use Rattle.stores.proofs.Chains.{two}
 use Rattle.rules.specs.Lists.{all, total, rising}
 use Rattle.rules.proofs.Lists.{and-left, and-right, and-both}
 use Rattle.outbox.specs.declared.Unacked.{Unacked}
 use Rattle.outbox.specs.View.{numU, lenU}
 use Rattle.outbox.specs.Sound.{admitsUnacked}
 use Rattle.outbox.specs.Records.{belowU}
-
--- ---- a chain of tests
-
-pub le-skip : (a b : ℕ) (t r : Bool) → a ≤ b → t ≡ r → (leb a b && t) ≡ r
-le-skip a b t r h e = ap (λ (x : Bool). x && t) (le-leb a b h) ∙ e
-
-pub le-stop : (a b : ℕ) (t : Bool) → b < a → (leb a b && t) ≡ false
-le-stop a b t h = ap (λ (x : Bool). x && t) (lt-leb a b h)
-
-pub lt-skip : (a b : ℕ) (t r : Bool) → a < b → t ≡ r → (ltb a b && t) ≡ r
-lt-skip a b t r h e = ap (λ (x : Bool). x && t) (lt-ltb a b h) ∙ e
-
-pub lt-stop : (a b : ℕ) (t : Bool) → b ≤ a → (ltb a b && t) ≡ false
-lt-stop a b t h = ap (λ (x : Bool). x && t) (le-ltb a b h)
-
-pub two : (a b : Bool) → (a && b) ≡ true → (a ≡ true) × (b ≡ true)
-two a b e = (and-left a b e, and-right a b e)
-
--- ---- a loop over records that are admitted
-
-module _ {A : Type 0} (number size : A → ℕ) (admits : ℕ → ℕ → A → Bool) (l : List A) (i n : ℕ) where
-  module _ (d : A) (h : i < n) (m : n ≤ length l) (last sum : ℕ) where
-    -- one record more
-    admitted-step : admitted number size admits last sum (slice i n l)
-        ≡ (admits last sum (getD l i d) && admitted number size admits (number (getD l i d)) (sum + size (getD l i d)) (slice (i + 1) n l))
-    unfolding admitted
-    admitted-step = ap (admitted number size admits last sum) (slice-step l i n d h m)
-
-    pub admitted-on : admits last sum (getD l i d) ≡ true
-        → admitted number size admits last sum (slice i n l) ≡ admitted number size admits (number (getD l i d)) (sum + size (getD l i d)) (slice (i + 1) n l)
-    admitted-on e = admitted-step ∙ ap (λ (b : Bool). b && admitted number size admits (number (getD l i d)) (sum + size (getD l i d)) (slice (i + 1) n l)) e
-
-    pub admitted-not : admits last sum (getD l i d) ≡ false → admitted number size admits last sum (slice i n l) ≡ false
-    admitted-not e = admitted-step ∙ ap (λ (b : Bool). b && admitted number size admits (number (getD l i d)) (sum + size (getD l i d)) (slice (i + 1) n l)) e
-
-  pub admitted-none : (last sum : ℕ) → n ≤ i → admitted number size admits last sum (slice i n l) ≡ true
-  unfolding admitted
-  admitted-none last sum h = ap (admitted number size admits last sum) (slice-none l i n h)
 
 -- ---- what admitted records have, and what makes records admitted
 

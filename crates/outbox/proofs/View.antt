@@ -21,7 +21,8 @@ use Rattle.outbox.specs.declared.Outbox.{Outbox}
 use Rattle.outbox.specs.View.{numU, lenU, unacked, recordU, usedU, unackedOf, outboxOf, endU, ExactOutbox}
 use Rattle.outbox.specs.Sound.{soundUnacked, soundOutbox}
 use Rattle.outbox.specs.Records.{belowU}
-use Rattle.outbox.proofs.Sounds.{two, FitU, admitted-fit, fit-admitted}
+use Rattle.stores.proofs.Chains.{two}
+use Rattle.outbox.proofs.Sounds.{FitU, admitted-fit, fit-admitted}
 
 -- ---- records and messages
 

@@ -14,11 +14,12 @@ use Rattle.rules.specs.State as R
 use Rattle.rules.specs.State.{body-of, frame-body}
 use Rattle.rules.specs.Start.{good-policy, good-reject, handoff-size}
 use Rattle.rules.specs.Sound.{ascending, at-most, sound-fixed, sound}
-use Rattle.rules.proofs.Lists.{and-left, and-right, and-both, every-true, true-every}
+use Rattle.rules.proofs.Lists.{and-both, every-true, true-every}
 use Rattle.rules.proofs.Outboxes as Out
 use Rattle.rules.proofs.Inboxes as In
 use Rattle.rules.proofs.Sound.{Sound, Settled, sound-parts, parts-sound}
 use Rattle.stores.proofs.Packs.{cut-packed}
+use Rattle.stores.proofs.Chains.{two}
 use Rattle.stores.specs.Packed.{cut}
 use Rattle.numbers.specs.declared.Numbers.{Numbers}
 use Rattle.numbers.specs.Seats.{inUse, ExactNumbers}
@@ -93,9 +94,6 @@ held-view t r o q x y e eo eq =
 pub record Good (s : SessionState) (o q : Bytes) : Type 0 where
   pub sound : Sound (stateOf s o q)
   pub exact : Exact s (length o) (length q)
-
-two : (a b : Bool) → (a && b) ≡ true → (a ≡ true) × (b ≡ true)
-two a b e = (and-left a b e, and-right a b e)
 
 module _ (s : SessionState) (o q : Bytes) where
   abbrev x : R.Fixed

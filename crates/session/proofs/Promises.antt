@@ -54,7 +54,7 @@ unfolding placed
 list-written {us} {es} {l} h =
     h .words 0 ∙ ap (λ (k : ℕ). flat (listed us 0 es) ++ drop k l) (zero-add (length (flat (listed us 0 es))))
 
-exit-cong : {h k : Held} {a b : Answer} {m n : ℕ} {x y : Lent} → h ≡ k → a ≡ b → m ≡ n → x ≡ y → exit h a m x ≡ exit k b n y
+pub exit-cong : {h k : Held} {a b : Answer} {m n : ℕ} {x y : Lent} → h ≡ k → a ≡ b → m ≡ n → x ≡ y → exit h a m x ≡ exit k b n y
 exit-cong p q r s = cc
 
 lent-cong : {a b : List ℕ} {c d e f g h : Bytes} → a ≡ b → c ≡ d → e ≡ f → g ≡ h → lent a c e g ≡ lent b d f h

@@ -28,6 +28,7 @@ use Rattle.peer_session.specs.New.{New}
 use Rattle.peer_session.proofs.Held.{agree}
 use Rattle.peer_session.proofs.Fresh.{new-state}
 use Rattle.session.specs.declared.Returned.{Returned}
+use Rattle.session.proofs.Promises.{exit-cong}
 use Rattle.session.specs.Promise.{exit, lent}
 use Rattle.starts.specs.declared.Reliable as Code
 use Rattle.starts.specs.declared.Verdict.the-variants as Found
@@ -108,9 +109,6 @@ module _ {x : Outbox} {policy : Policy} {j : RejectBody} {r : SessionState} (c :
       })
 
 -- ---- the promise
-
-exit-cong : {h k : Held} {a b : Answer} {m n : ℕ} {x y : Lent} → h ≡ k → a ≡ b → m ≡ n → x ≡ y → exit h a m x ≡ exit k b n y
-exit-cong p q r s = cc
 
 module _ (c : Code.Reliable) (ns ks : List ℕ) (b : Bytes) (policy : Policy) (reject o q : Bytes) where
   -- refused: by a store, or by the record

@@ -1,5 +1,5 @@
 use mathlib.Core.Path.{refl, sym}
-use Rattle.outbox.proofs.Sounds.{lt-skip, lt-stop}
+use Rattle.stores.proofs.Chains.{lt-skip, lt-stop}
 use borrow.Author.Needs.{needs}
 use Rattle.outbox.proofs.admits_unacked.Statement.{statement}
 use Rattle.outbox.proofs.admits_unacked.Tie as tie

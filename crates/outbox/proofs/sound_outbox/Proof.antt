@@ -1,6 +1,6 @@
 use mathlib.Core.Path.{sym}
 use Rattle.outbox.specs.Sound.{soundOutbox}
-use Rattle.outbox.proofs.Sounds.{le-skip, le-stop}
+use Rattle.stores.proofs.Chains.{le-skip, le-stop}
 use borrow.Author.Needs.{needs}
 use Rattle.outbox.proofs.sound_outbox.Statement.{statement}
 use Rattle.outbox.proofs.sound_outbox.Tie as tie

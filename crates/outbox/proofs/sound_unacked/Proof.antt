@@ -9,7 +9,8 @@ use Rattle.stores.specs.Admitted.{admitted}
 use Rattle.stores.proofs.Packs.{unmapped}
 use Rattle.outbox.specs.View.{numU, lenU, blankU}
 use Rattle.outbox.specs.Sound.{admitsUnacked, soundUnacked}
-use Rattle.outbox.proofs.Sounds.{admitted-on, admitted-not, admitted-none, admits-facts}
+use Rattle.stores.proofs.Scans.{admitted-on, admitted-not, admitted-none}
+use Rattle.outbox.proofs.Sounds.{admits-facts}
 use borrow.Author.Needs.{needs}
 use Rattle.outbox.proofs.sound_unacked.Statement.{statement}
 use Rattle.outbox.proofs.sound_unacked.Tie as tie
