@@ -73,6 +73,17 @@ CalledWithOutbound c s l o r l′ o′ = (d q : Bytes) → queue-bytes ≤ lengt
 abbrev pub CalledWithStores : Call → SessionState → List ℕ → Bytes → Bytes → Returned → List ℕ → Bytes → Bytes → Type 0
 CalledWithStores c s l o q r l′ o′ q′ = (d : Bytes) → Called c s (lent l d o q) r (lent l′ d o′ q′)
 
+-- of a call that lists nothing and takes the outbound store, both stores, or nothing
+abbrev pub CalledWithOutboundAlone : Call → SessionState → Bytes → Returned → Bytes → Type 0
+CalledWithOutboundAlone c s o r o′ = (l : List ℕ) (d q : Bytes) → queue-bytes ≤ length q → Called c s (lent l d o q) r (lent l d o′ q)
+
+abbrev pub CalledWithStoresAlone : Call → SessionState → Bytes → Bytes → Returned → Bytes → Bytes → Type 0
+CalledWithStoresAlone c s o q r o′ q′ = (l : List ℕ) (d : Bytes) → Called c s (lent l d o q) r (lent l d o′ q′)
+
+abbrev pub CalledAlone : Call → SessionState → Returned → Type 0
+CalledAlone c s r =
+    (l : List ℕ) (d o q : Bytes) → outbound-bytes ≤ length o → queue-bytes ≤ length q → Called c s (lent l d o q) r (lent l d o q)
+
 -- of a call that hands no session back: it is the one that it was given
 abbrev pub ToldWithList : Call → SessionState → List ℕ → Told → List ℕ → Type 0
 ToldWithList c s l r l′ =
