@@ -1,66 +1,52 @@
+-- `replays::replayed` meets its contract, answer by answer. Assumes nothing.
 use mathlib.Core.Path.{_≡_, sym, _∙_}
 use mathlib.Core.Bool.{true}
 use native.Mathlib.Omega.{arith}
 use borrow.Author.Tests.{not-true, not-false}
+use borrow.Author.Needs.{needs}
 use Rattle.outbox.proofs.View.{sound-facts}
 use Rattle.peer_session.specs.Sound.{soundOf}
 use Rattle.peer_session.proofs.View.{Parts, parts}
 use Rattle.replays.proofs.Connects.{unsound, nothing-unacked, kept-back, replays}
-use borrow.Author.Needs.{needs}
 use Rattle.replays.proofs.replayed.Statement.{statement}
 use Rattle.replays.proofs.replayed.Tie as tie
-use Rattle.replays.proofs.replayed.Reads as reads
-use Rattle.replays.proofs.replayed.Lts as lts
-use Rattle.outbox.proofs.replay.Reads as replay-reads
-use Rattle.peer_session.proofs.sound.Reads as sound-reads
-use Rattle.replays.proofs.too_soon.Reads as too-soon-reads
-use Rattle.session.proofs.refused.Reads as refused-reads
 
 is-sound : (c : tie.Else1) → soundOf (c .before .before .before .args .s) ≡ true
 is-sound c = sym (c .before .sound .ensures .is) ∙ not-false _ (c .if1 .left)
 
--- src/lib.rt:44:9
 sound-requires : tie.Need-sound-requires
 sound-requires c κs = search needs
 
--- src/lib.rt:45:9
 refused-requires : tie.Need-refused-requires
 refused-requires c κs = search needs
 
--- src/lib.rt:45:9
 returns : tie.Need-returns
 returns c = λ e h k.
     let a : tie.Start = c .before .before .before .before in
     unsound e (a .args .time) (a .args .force) (a .args .s) (a .args .list .now) (a .pre) (omega arith) k (c .refused .ensures) (sym (c .before .before .sound .ensures .is) ∙ not-true _ (c .before .if1 .taken))
 
--- src/lib.rt:48:9
 returns-2 : tie.Need-returns-2
 returns-2 c = λ e h k.
     let a : tie.Start = c .before .before .before .before .before in
     nothing-unacked e (a .args .time) (a .args .force) (a .args .s) (a .args .list .now) (a .pre) (is-sound (c .before .before)) (c .before .before .before .sound .ensures .full) h k (c .if2 .taken)
 
--- src/lib.rt:54:8
 too-soon-requires : tie.Need-too-soon-requires
 too-soon-requires c κs = search needs
 
--- src/lib.rt:55:9
 returns-3 : tie.Need-returns-3
 returns-3 c = λ e h k.
     let a : tie.Start = c .before .before .before .before .before .before .before in
     kept-back e (a .args .time) (a .args .force) (a .args .s) (a .args .list .now) (a .pre) (is-sound (c .before .before .before .before)) (c .before .before .before .before .before .sound .ensures .full) h k (c .before .before .if2 .left) (sym (c .before .too-soon .ensures) ∙ c .if3 .taken)
 
--- src/lib.rt:62:9
 replay-requires : tie.Need-replay-requires
 replay-requires c κs =
     let a : tie.Start = c .before .before .before .before .before .before .before .before .before in
     let p : Parts (a .args .s) = parts (a .args .s) (is-sound (c .before .before .before .before .before .before)) (c .before .before .before .before .before .before .before .sound .ensures .full) in
     (p .outbox, omega (arith, a .pre, sound-facts (a .args .s .outbox) (p .outbox) .few))
 
--- src/lib.rt:40:1
 same-length : tie.Need-same-length
 same-length c = search needs
 
--- src/lib.rt:40:1
 returns-4 : tie.Need-returns-4
 returns-4 c = λ e h k.
     let a : tie.Start = c .before .before .before .before .before .before .before .before .before .before .before .before .before in
