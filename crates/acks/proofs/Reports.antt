@@ -2,27 +2,24 @@
 use mathlib.Core.Path.{_≡_, refl, sym, ap, _∙_}
 use mathlib.Core.Bool.{Bool, true, false, not, _&&_}
 use mathlib.Core.List.{List, [], _∷_, map}
-use mathlib.Core.Option.{Option, none, some}
+use mathlib.Core.Option.{none, some}
 use Prim.Native.Nat.{ℕ, _*_, _≤_, _<_}
 use native.Mathlib.Omega.{arith}
 use lib.ListN.{length, take, replicate, length-replicate}
 use lib.Dec.{leb, eqb}
 use borrow.Author.Tests.{lt-ltb, le-ltb, eq-eqb, ne-eqb, le-leb, lt-leb}
 use Rattle.stores.specs.Placed.{placed}
-use Rattle.rules.specs.declared.Answer.{Answer}
-use Rattle.rules.specs.declared.Answer.the-variants.{Done, Refused}
-use Rattle.rules.specs.declared.Refusal.{Refusal}
+use Rattle.rules.specs.declared.Answer.the-variants.{Done}
 use Rattle.rules.specs.declared.Refusal.the-variants.{RetriesFull}
 use Rattle.rules.specs.Lists.{Bytes, if_then_else_, itself, has, put, kept}
 use Rattle.rules.specs.State as R
 use Rattle.rules.specs.State.{unacked-is, retry-is, handoff-is}
-use Rattle.rules.specs.Events.{Event, commit-requested, listed}
-use Rattle.rules.specs.Progress.{Outcome, outcome, _refuses_when_else_}
-use Rattle.rules.specs.Acks.{sent, handoff-sent, send-handoff, report-data, report-ack, retries-full, differs-from, report}
-use Rattle.rules.specs.Calls.{Call, reports, step}
+use Rattle.rules.specs.Events.{commit-requested, listed}
+use Rattle.rules.specs.Progress.{Outcome, outcome}
+use Rattle.rules.specs.Acks.{sent, send-handoff, report-data, report-ack, retries-full, differs-from, report}
+use Rattle.rules.specs.Calls.{reports, step}
 use Rattle.rules.specs.Buffers.{takes, taken-by, wrong-code, flat}
 use Rattle.rules.proofs.Sound.{report-sound}
-use Rattle.events.specs.Written.{Listed}
 use Rattle.events.proofs.Laws.{listed-none}
 use Rattle.numbers.specs.declared.Numbers.{Numbers}
 use Rattle.numbers.specs.Seats.{inUse, ExactNumbers, Holds}
@@ -39,7 +36,7 @@ use Rattle.peer_session.proofs.View.{Good, sound-good, parts}
 use Rattle.peer_session.proofs.Held.{outbox-cong, inbox-cong, state-cong}
 use Rattle.session.specs.declared.Returned.{Returned}
 use Rattle.session.specs.Promise.{CalledWithList, Turned}
-use Rattle.session.proofs.WithList.{Keeps, list-meets}
+use Rattle.session.proofs.WithList.{list-meets}
 use Rattle.acks.specs.Reports.{Reports, ownFrame, fullOf, MayRetry}
 
 -- ---- the rule

@@ -1,5 +1,4 @@
 use borrow.Author.Tests.{not-true, not-false}
-use borrow.Author.Needs.{needs}
 use Rattle.acks.proofs.own_frame.Statement.{statement}
 use Rattle.acks.proofs.own_frame.Tie as tie
 use Rattle.acks.proofs.own_frame.Reads as reads

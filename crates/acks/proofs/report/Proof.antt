@@ -1,9 +1,9 @@
 use Rattle.acks.proofs.Reports.{list-alone, bad-code, good-code, of-data, of-ack, reported, few-messages, may-retry}
-use mathlib.Core.Path.{refl, sym, _∙_}
+use mathlib.Core.Path.{sym, _∙_}
 use mathlib.Core.Bool.{true, false}
 use borrow.Author.Tests.{not-true, not-false}
 use Rattle.peer_session.proofs.View.{parts}
-use Rattle.session.proofs.WithList.{list-short, list-wrong, list-unsound, list-meets, list-answers}
+use Rattle.session.proofs.WithList.{list-short, list-wrong, list-unsound, list-answers}
 use Rattle.rules.specs.declared.Answer.the-variants.{Done}
 use Rattle.rules.specs.Calls.{reports}
 use borrow.Author.Needs.{needs}
