@@ -3,3 +3,4 @@ pub mod Promises
 pub mod Lengths
 pub mod Entry
 pub mod Queries
+pub mod WithList

@@ -1,0 +1,3 @@
+-- The laws of commits.
+pub mod Releases
+pub mod Completes

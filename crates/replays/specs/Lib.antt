@@ -1,0 +1,2 @@
+-- The definitions that the contracts of `replays` cite.
+pub mod Connects
