@@ -1,3 +1,5 @@
 -- The laws of acks, of a keepalive and of a report.
 pub mod Steps
 pub mod Acks
+pub mod Keepalives
+pub mod Reports

@@ -78,15 +78,15 @@ failure-listed w us = record { count = refl; words = λ at. w }
 
 -- ---- what an ack leaves
 
-module _ (n : ℕ) (h : TerminalHandoff) (flag : Bool) where
+module _ (h : TerminalHandoff) (flag : Bool) where
   abbrev flagged : TerminalHandoff
   flagged = record { body = h .body; len = h .len; id = h .id; number = h .number; sent = h .sent; acknowledged = flag; present = h .present }
 
   abbrev with-flag : Bool → R.Handoff
   with-flag b = record { id = h .id; number = h .number; body = take (h .len) (h .body); sent = h .sent; acknowledged = b }
 
-  handoff-acked : flag ≡ (h .acknowledged || (h .sent && leb (h .number) n)) → acknowledged-by n (handoffOf h) ≡ handoffOf flagged
-  handoff-acked e = go (h .present)
+  handoff-acked : (n : ℕ) → flag ≡ (h .acknowledged || (h .sent && leb (h .number) n)) → acknowledged-by n (handoffOf h) ≡ handoffOf flagged
+  handoff-acked n e = go (h .present)
     where
       go : (b : Bool) → acknowledged-by n (if b then some (with-flag (h .acknowledged)) else none) ≡ (if b then some (with-flag flag) else none)
       go true = ap (λ (b : Bool). some (with-flag b)) (sym e)
@@ -112,7 +112,7 @@ module _ (n : ℕ) (s : SessionState) (o : Bytes) (x : Outbox) (o′ : Bytes) (c
         retry = s .retry;
         clock = c;
         stage = s .stage;
-        handoff = flagged n (s .handoff) flag;
+        handoff = flagged (s .handoff) flag;
         policy = s .policy;
         reject = s .reject;
       }
@@ -129,7 +129,7 @@ module _ (n : ℕ) (s : SessionState) (o : Bytes) (x : Outbox) (o′ : Bytes) (c
       ap (λ (i : ℕ). clockAfter (eqb i (s .outbox .count)) (s .clock)) k ∙ ap (λ (i : ℕ). clockAfter (eqb (length us) i) (s .clock)) m in
       record {
         does = λ q.
-            acked-if n (stateOf s o q) us (eqb (length us) (length (unackedOf (s .outbox) o))) (left .next) (left .repacked .unacked) (ec ∙ b) (handoff-acked n (s .handoff) flag eh);
+            acked-if n (stateOf s o q) us (eqb (length us) (length (unackedOf (s .outbox) o))) (left .next) (left .repacked .unacked) (ec ∙ b) (handoff-acked (s .handoff) flag n eh);
         exact = λ size e.
             record {
               outbox = left .repacked .exact;

@@ -1,2 +1,3 @@
 -- The definitions that the contracts of `acks` cite.
 pub mod Steps
+pub mod Reports

@@ -1,21 +1,26 @@
 // Acknowledgements: the Rust's `receive_ack`, the keepalive, and what follows a report of a send (session.rs).
 ghost use mathlib.Core.Path.{_≡_};
 ghost use mathlib.Core.Bool.{Bool, true, false, _&&_, _||_};
-ghost use Prim.Native.Nat.{_+_, _*_, _≤_, _<_};
+ghost use mathlib.Core.List.{List};
+ghost use Prim.Native.Nat.{ℕ, _+_, _*_, _≤_, _<_};
 ghost use lib.ListN.{length};
 ghost use lib.Dec.{leb, eqb};
-ghost use Rattle.rules.specs.Calls.{gets-ack};
+ghost use Rattle.rules.specs.Acks.{report-data, report-ack};
+ghost use Rattle.rules.specs.Calls.{gets-ack, gets-keepalive, reports};
 ghost use Rattle.rules.specs.State.{is-raw};
 ghost use Rattle.events.specs.Written.{Listed};
 ghost use Rattle.queue.specs.View.{ExactQueue};
-ghost use Rattle.session.specs.Promise.{CalledWithStores};
+ghost use Rattle.session.specs.Promise.{CalledWithList, CalledWithStores, ToldWithList};
 ghost use Rattle.acks.specs.Steps.{ListedIf, clockAfter, Ready, Acknowledges, notices, Acked, OutOfRange};
+ghost use Rattle.acks.specs.Reports.{Reports, fullOf, MayRetry};
+use numbers::Numbers;
 use peer_session::SessionState;
 use rules::Answer;
 use rules::Clock;
 use rules::ReceiveMode;
 use rules::Refusal;
 use session::Returned;
+use session::Told;
 
 // ---- an ack
 
@@ -167,4 +172,143 @@ pub fn receive_ack(
         return out_of_range(s, list, queue);
     }
     acknowledged(s, list, outbound, number)
+}
+
+// ---- a keepalive
+
+// Acks whose send was not accepted are sent again.
+pub fn receive_keepalive(s: SessionState, list: &mut [u64]) -> Told
+    ensures { λ r. ⌜ ToldWithList gets-keepalive s (now (list .entry)) r (now (list .exit)) ⌝ }
+{
+    if list.len() < SessionState::EVENT_WORDS {
+        return Told {
+            answer: Answer::Refused(Refusal::ShortBuffer),
+            events: 0,
+        };
+    }
+    if !peer_session::sound(s) {
+        return Told {
+            answer: Answer::Refused(Refusal::BadRecord),
+            events: 0,
+        };
+    }
+    events::emit(list, 0, 5, 0, 0, 0);
+    let v = s.retry;
+    let n = numbers::list_all(v, list, 1);
+    Told {
+        answer: Answer::Flag(true),
+        events: n,
+    }
+}
+
+// ---- a report of a send
+
+// Whether a handoff's own frame has the number.
+fn own_frame(present: bool, handoff: u64, number: u64) -> bool
+    ensures { λ r. ⌜ r ≡ (present && eqb handoff number) ⌝ }
+{
+    if !present {
+        return false;
+    }
+    handoff == number
+}
+
+// Data was accepted. The handoff's own frame requests a commit, whatever the generation.
+fn report_data(s: SessionState, list: &mut [u64], number: u64) -> Returned
+    requires { ⌜ (4096 ≤ length (now list)) × (s .outbox .count ≤ 256) ⌝ }
+    ensures { λ r. ⌜ Reports (report-data true number) s (now (list .entry)) r (now (list .exit)) ⌝ }
+{
+    let o = s.outbox;
+    let sent = outbox::mark_sent(o, number);
+    let mut r = s;
+    r.outbox = sent;
+    if !own_frame(s.handoff.present, s.handoff.number, number) {
+        return Returned {
+            session: r,
+            answer: Answer::Done,
+            events: 0,
+        };
+    }
+    r.handoff.sent = true;
+    events::emit(list, 0, 1, 0, 0, 0);
+    Returned {
+        session: r,
+        answer: Answer::Done,
+        events: 1,
+    }
+}
+
+// An ack was accepted.
+fn ack_sent(s: SessionState, number: u64) -> Returned
+    requires { ⌜ s .retry .count ≤ 512 ⌝ }
+    ensures { λ r. ⌜ ((l : List ℕ) → Reports (report-ack true number) s l r l) ⌝ }
+{
+    let v = s.retry;
+    let left = numbers::take_out(v, number);
+    let mut r = s;
+    r.retry = left;
+    Returned {
+        session: r,
+        answer: Answer::Done,
+        events: 0,
+    }
+}
+
+// Whether a number would be a 513th.
+fn retries_full(v: Numbers, number: u64) -> bool
+    requires { ⌜ v .count ≤ 512 ⌝ }
+    ensures { λ r. ⌜ r ≡ fullOf number v ⌝ }
+{
+    if v.count < SessionState::MAX_RETRIES {
+        return false;
+    }
+    !numbers::has(v, number)
+}
+
+// An ack was not accepted: it is sent again with the next keepalive.
+fn retry_ack(s: SessionState, number: u64) -> Returned
+    requires { ⌜ MayRetry number (s .retry) ⌝ }
+    ensures { λ r. ⌜ ((l : List ℕ) → Reports (report-ack false number) s l r l) ⌝ }
+{
+    let v = s.retry;
+    if retries_full(v, number) {
+        return session::refused(s, Refusal::RetriesFull);
+    }
+    let more = numbers::put(v, number);
+    let mut r = s;
+    r.retry = more;
+    Returned {
+        session: r,
+        answer: Answer::Done,
+        events: 0,
+    }
+}
+
+// Whether a send was accepted: what is 0 of data, 1 of an ack.
+pub fn report(s: SessionState, list: &mut [u64], what: u64, number: u64, accepted: bool) -> Returned
+    ensures { λ r. ⌜ CalledWithList (reports what number accepted) s (now (list .entry)) r (now (list .exit)) ⌝ }
+{
+    if list.len() < SessionState::EVENT_WORDS {
+        return session::refused(s, Refusal::ShortBuffer);
+    }
+    if 1 < what {
+        return session::refused(s, Refusal::UnknownCode);
+    }
+    if !peer_session::sound(s) {
+        return session::refused(s, Refusal::BadRecord);
+    }
+    if what == 0 {
+        if accepted {
+            return report_data(s, list, number);
+        }
+        return Returned {
+            session: s,
+            answer: Answer::Done,
+            events: 0,
+        };
+    }
+    if accepted {
+        return ack_sent(s, number);
+    }
+    retry_ack(s, number)
 }
