@@ -1,7 +1,7 @@
 -- The steps of a commit, by their tests. Assumes nothing.
 use mathlib.Core.Path.{_≡_, refl, sym, ap, _∙_}
 use mathlib.Core.Bool.{Bool, true, false}
-use mathlib.Core.List.{List, [], _∷_, _++_, map}
+use mathlib.Core.List.{List, [], _∷_, map}
 use Prim.Native.Nat.{ℕ, _+_, _*_, _≤_, _<_, max}
 use native.Mathlib.Omega.{arith}
 use native.Mathlib.Nat.{le-of-lt, max-eq-left, max-eq-right}
@@ -10,14 +10,13 @@ use borrow.Author.Tests.{le-leb, lt-leb}
 use Rattle.stores.specs.Placed.{placed}
 use Rattle.rules.specs.declared.Clock.{Clock}
 use Rattle.rules.specs.declared.PreparedCommit.{PreparedCommit}
-use Rattle.rules.specs.Lists.{Bytes, kept}
 use Rattle.rules.specs.State as R
 use Rattle.rules.specs.State.{clock-is}
-use Rattle.rules.specs.Events.{Event, send-ack, listed}
-use Rattle.rules.specs.Progress.{Progress, goes}
-use Rattle.rules.specs.Commits.{releases, release, releases-ack, data-frame, after-release, released-frames, release-by}
+use Rattle.rules.specs.Events.{listed}
+use Rattle.rules.specs.Progress.{goes}
+use Rattle.rules.specs.Commits.{release, after-release, released-frames, release-by}
 use Rattle.rules.specs.Buffers.{flat}
-use Rattle.events.specs.Written.{ListedIn, Listed}
+use Rattle.events.specs.Written.{Listed}
 use Rattle.events.proofs.Laws.{listed-none, listed-then}
 use Rattle.numbers.specs.declared.Released as N
 use Rattle.numbers.specs.Seats.{ReleasesAcks}
@@ -25,9 +24,9 @@ use Rattle.outbox.specs.declared.Released as O
 use Rattle.outbox.specs.View.{endU, unackedOf}
 use Rattle.outbox.specs.Steps.{Releases}
 use Rattle.peer_session.specs.declared.SessionState.{SessionState}
-use Rattle.peer_session.specs.View.{stateOf, Exact}
+use Rattle.peer_session.specs.View.{stateOf}
 use Rattle.peer_session.proofs.Held.{outbox-cong, inbox-cong, state-cong}
-use Rattle.commits.specs.Releases.{Persists, MayRelease, frames, ReleasesBy, notices}
+use Rattle.commits.specs.Releases.{Persists, MayRelease, ReleasesBy, notices}
 
 -- ---- persisted
 

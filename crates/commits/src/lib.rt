@@ -1,5 +1,4 @@
 // Commits: the Rust's `prepare_commit` and `complete_commit` (session.rs, peer_session.rs). Between the two the host writes the session to its store.
-ghost use mathlib.Core.Path.{_≡_};
 ghost use Prim.Native.Nat.{_+_, _*_, _≤_};
 ghost use lib.ListN.{length};
 ghost use Rattle.rules.specs.Calls.{prepares, completes};

@@ -1,1 +1,2 @@
--- The laws of replays.
+-- The laws of `connectivity`.
+pub mod Connects

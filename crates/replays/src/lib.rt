@@ -1,7 +1,10 @@
 // Replays: the Rust's `connectivity` (session.rs, peer_session.rs).
+ghost use mathlib.Core.Path.{_≡_};
+ghost use mathlib.Core.Bool.{not, _&&_};
 ghost use Prim.Native.Nat.{_≤_};
 ghost use lib.ListN.{length};
 ghost use Rattle.rules.specs.Calls.{connects};
+ghost use Rattle.rules.specs.Clock.{held-back};
 ghost use Rattle.session.specs.Promise.{CalledWithList};
 ghost use Rattle.replays.specs.Connects.{Noted, Replayed};
 use peer_session::SessionState;
@@ -23,6 +26,16 @@ fn noted(s: SessionState) -> Returned
     }
 }
 
+// Whether the clock holds a replay back that is not forced.
+fn too_soon(time: f64, last: f64, force: bool) -> bool
+    ensures { λ r. ⌜ r ≡ (not force && held-back time last) ⌝ }
+{
+    if force {
+        return false;
+    }
+    clock::held_back(time, last)
+}
+
 // 4 registered, 5 peer-available: what is unacked and not pending is sent anew, unless that was done a moment ago and is not forced.
 fn replayed(s: SessionState, list: &mut [u64], time: f64, force: bool) -> Returned
     requires { ⌜ 4096 ≤ length (now list) ⌝ }
@@ -38,7 +51,7 @@ fn replayed(s: SessionState, list: &mut [u64], time: f64, force: bool) -> Return
             events: 0,
         };
     }
-    if !force && clock::held_back(time, s.clock.last_replay_at) {
+    if too_soon(time, s.clock.last_replay_at, force) {
         return Returned {
             session: s,
             answer: Answer::Flag(false),

@@ -4,3 +4,4 @@ pub mod Lengths
 pub mod Entry
 pub mod Queries
 pub mod WithList
+pub mod Clocks

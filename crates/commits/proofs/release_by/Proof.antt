@@ -1,29 +1,21 @@
-use Rattle.commits.proofs.Releases.{released-before, released-now}
+-- `commits::release_by` meets its contract, by whether its generation was released already. Assumes nothing.
 use borrow.Author.Needs.{needs}
+use Rattle.commits.proofs.Releases.{released-before, released-now}
 use Rattle.commits.proofs.release_by.Statement.{statement}
 use Rattle.commits.proofs.release_by.Tie as tie
-use Rattle.commits.proofs.release_by.Reads as reads
-use Rattle.commits.proofs.release_by.Lts as lts
-use Rattle.numbers.proofs.release.Reads as release-reads
-use Rattle.outbox.proofs.release.Reads as release-reads′
 
--- src/lib.rt:61:9
 returns : tie.Need-returns
 returns c = released-before (c .before .before .before .before .args .commit) (c .before .before .before .before .args .s) (c .before .before .before .before .args .list .now) (c .if1 .taken)
 
--- src/lib.rt:68:9
 release-requires : tie.Need-release-requires
 release-requires c κs = search needs
 
--- src/lib.rt:69:9
 release-requires-2 : tie.Need-release-requires-2
 release-requires-2 c κs = search needs
 
--- src/lib.rt:56:1
 same-length : tie.Need-same-length
 same-length c = search needs
 
--- src/lib.rt:56:1
 returns-2 : tie.Need-returns-2
 returns-2 c = released-now (c .before .before .before .before .before .before .before .before .before .before .before .before .before .before .before .before .before .args .commit) (c .before .before .before .before .before .before .before .before .before .before .before .before .before .before .before .before .before .args .s) (c .before .before .before .before .before .before .before .before .before .before .before .before .before .before .before .before .before .args .list .now) (c .before .before .before .before .before .before .before .before .before .release .result) (c .before .before .before .before .before .release2 .result) (c .before .before .before .before .before .before .before .before .before .release .last .1 .1 .0) (c .before .before .before .before .before .release2 .last .1 .1 .0) (c .before .before .before .before .before .before .before .before .before .before .before .before .before .if1 .left) (c .before .before .before .before .before .before .before .before .before .before .before .before .before .before .before .before .before .pre) (c .before .before .before .before .before .before .before .before .before .release .ensures) (c .before .before .before .before .before .release2 .ensures)
 

@@ -1,48 +1,56 @@
+-- `replays::replayed` meets its contract, answer by answer. Assumes nothing.
+use mathlib.Core.Path.{_≡_, sym, _∙_}
+use mathlib.Core.Bool.{true}
+use native.Mathlib.Omega.{arith}
+use borrow.Author.Tests.{not-true, not-false}
 use borrow.Author.Needs.{needs}
+use Rattle.outbox.proofs.View.{sound-facts}
+use Rattle.peer_session.specs.Sound.{soundOf}
+use Rattle.peer_session.proofs.View.{Parts, parts}
+use Rattle.replays.proofs.Connects.{unsound, nothing-unacked, kept-back, replays}
 use Rattle.replays.proofs.replayed.Statement.{statement}
 use Rattle.replays.proofs.replayed.Tie as tie
-use Rattle.replays.proofs.replayed.Reads as reads
-use Rattle.replays.proofs.replayed.Lts as lts
-use Rattle.clock.proofs.held_back.Reads as held-back-reads
-use Rattle.outbox.proofs.replay.Reads as replay-reads
-use Rattle.peer_session.proofs.sound.Reads as sound-reads
-use Rattle.session.proofs.refused.Reads as refused-reads
 
--- src/lib.rt:31:9
+is-sound : (c : tie.Else1) → soundOf (c .before .before .before .args .s) ≡ true
+is-sound c = sym (c .before .sound .ensures .is) ∙ not-false _ (c .if1 .left)
+
 sound-requires : tie.Need-sound-requires
 sound-requires c κs = search needs
 
--- src/lib.rt:32:9
 refused-requires : tie.Need-refused-requires
 refused-requires c κs = search needs
 
--- src/lib.rt:32:9
 returns : tie.Need-returns
-returns c = search needs
+returns c = λ e h k.
+    let a : tie.Start = c .before .before .before .before in
+    unsound e (a .args .time) (a .args .force) (a .args .s) (a .args .list .now) (a .pre) (omega arith) k (c .refused .ensures) (sym (c .before .before .sound .ensures .is) ∙ not-true _ (c .before .if1 .taken))
 
--- src/lib.rt:35:9
 returns-2 : tie.Need-returns-2
-returns-2 c = search needs
+returns-2 c = λ e h k.
+    let a : tie.Start = c .before .before .before .before .before in
+    nothing-unacked e (a .args .time) (a .args .force) (a .args .s) (a .args .list .now) (a .pre) (is-sound (c .before .before)) (c .before .before .before .sound .ensures .full) h k (c .if2 .taken)
 
--- src/lib.rt:41:18
-held-back-requires : tie.Need-held-back-requires
-held-back-requires c κs = search needs
+too-soon-requires : tie.Need-too-soon-requires
+too-soon-requires c κs = search needs
 
--- src/lib.rt:42:9
 returns-3 : tie.Need-returns-3
-returns-3 c = search needs
+returns-3 c = λ e h k.
+    let a : tie.Start = c .before .before .before .before .before .before .before in
+    kept-back e (a .args .time) (a .args .force) (a .args .s) (a .args .list .now) (a .pre) (is-sound (c .before .before .before .before)) (c .before .before .before .before .before .sound .ensures .full) h k (c .before .before .if2 .left) (sym (c .before .too-soon .ensures) ∙ c .if3 .taken)
 
--- src/lib.rt:49:9
 replay-requires : tie.Need-replay-requires
-replay-requires c κs = search needs
+replay-requires c κs =
+    let a : tie.Start = c .before .before .before .before .before .before .before .before .before in
+    let p : Parts (a .args .s) = parts (a .args .s) (is-sound (c .before .before .before .before .before .before)) (c .before .before .before .before .before .before .before .sound .ensures .full) in
+    (p .outbox, omega (arith, a .pre, sound-facts (a .args .s .outbox) (p .outbox) .few))
 
--- src/lib.rt:27:1
 same-length : tie.Need-same-length
 same-length c = search needs
 
--- src/lib.rt:27:1
 returns-4 : tie.Need-returns-4
-returns-4 c = search needs
+returns-4 c = λ e h k.
+    let a : tie.Start = c .before .before .before .before .before .before .before .before .before .before .before .before .before in
+    replays e (a .args .time) (a .args .force) (a .args .s) (a .args .list .now) (a .pre) (is-sound (c .before .before .before .before .before .before .before .before .before .before)) (c .before .before .before .before .before .before .before .before .before .before .before .sound .ensures .full) h k (c .before .before .before .before .before .before .before .before .if2 .left) (sym (c .before .before .before .before .before .before .before .too-soon .ensures) ∙ c .before .before .before .before .before .before .if3 .left) (c .before .before .before .replay .last .1 .0) (c .before .before .before .replay .result) (c .before .before .before .replay .ensures)
 
 pub replayed-spec : {M : Type 1} → statement M
 replayed-spec =
@@ -52,7 +60,7 @@ replayed-spec =
     refused-requires
     returns
     returns-2
-    held-back-requires
+    too-soon-requires
     returns-3
     replay-requires
     same-length
