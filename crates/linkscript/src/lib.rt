@@ -1,0 +1,187 @@
+// Document 01's `linkrun`: reads calls from the lines of standard input, makes them on one session, and prints each.
+ghost use Prim.Native.Nat.{_≤_};
+use peer_session::SessionState;
+use reading::Call;
+use reading::Line;
+use rules::PreparedCommit;
+
+mod calling; // the session and its calls
+mod printing; // what is printed of a call
+mod reading; // the call of a line
+
+// The session, the record for its next completion, the size of the line so far, its number, and how much of the output buffer is used.
+struct Script {
+    session: SessionState,
+    commit: PreparedCommit,
+    size: usize,
+    number: u64,
+    used: usize,
+}
+
+fn begin(message_number: u64, outbound: &mut [u8], queue: &mut [u8]) -> Script
+    ensures { λ r. ⌜ r .used ≤ 65536 ⌝ }
+{
+    let r = calling::start(message_number, outbound, queue);
+    let session = r.session;
+    let zeros = PreparedCommit {
+        generation: 0,
+        outbound: 0,
+        remote: 0,
+    };
+    Script {
+        session: session,
+        commit: zeros,
+        size: 0,
+        number: 1,
+        used: 0,
+    }
+}
+
+fn answer_call(
+    c: Call,
+    body: &[u8; 65537],
+    list: &mut [u64; 4096],
+    outbound: &mut [u8; 65536],
+    queue: &mut [u8; 32768],
+    out: &mut [u8; 65536],
+    t: Script,
+) -> Script
+    requires { ⌜ t .used ≤ 65536 ⌝ }
+    ensures { λ r. ⌜ r .used ≤ 65536 ⌝ }
+{
+    let used = t.used;
+    let commit = t.commit;
+    let number = std::num::wrapping_add_u64(t.number, 1);
+    let r = calling::call(c, t.session, commit, body, list, outbound, queue);
+    let a = r.answer;
+    let n = printing::print_call(out, used, printing::letter(c), a, list, r.events);
+    let session = r.session;
+    let next = calling::record_after(a, commit);
+    Script {
+        session: session,
+        commit: next,
+        size: 0,
+        number: number,
+        used: n,
+    }
+}
+
+fn answer_wrong(out: &mut [u8; 65536], t: Script) -> Script
+    requires { ⌜ t .used ≤ 65536 ⌝ }
+    ensures { λ r. ⌜ r .used ≤ 65536 ⌝ }
+{
+    let n = printing::print_wrong(out, t.used, t.number);
+    let mut r = t;
+    r.size = 0;
+    r.used = n;
+    r.number = std::num::wrapping_add_u64(t.number, 1);
+    r
+}
+
+fn answer(
+    line: &[u8; 131076],
+    body: &mut [u8; 65537],
+    list: &mut [u64; 4096],
+    outbound: &mut [u8; 65536],
+    queue: &mut [u8; 32768],
+    out: &mut [u8; 65536],
+    t: Script,
+) -> Script
+    requires { ⌜ t .used ≤ 65536 ⌝ }
+    ensures { λ r. ⌜ r .used ≤ 65536 ⌝ }
+{
+    let l = reading::read_sized(line, t.size, body);
+    match l {
+        Line::Call(c) => answer_call(c, body, list, outbound, queue, out, t),
+        Line::Wrong => answer_wrong(out, t),
+    }
+}
+
+fn answer_chunk(
+    chunk: &[u8; 65536],
+    n: usize,
+    line: &mut [u8; 131076],
+    body: &mut [u8; 65537],
+    list: &mut [u64; 4096],
+    outbound: &mut [u8; 65536],
+    queue: &mut [u8; 32768],
+    out: &mut [u8; 65536],
+    t: Script,
+) -> Script
+    requires { ⌜ t .used ≤ 65536 ⌝ }
+    ensures { λ r. ⌜ r .used ≤ 65536 ⌝ }
+{
+    let some = text::front(chunk, n);
+    let mut r = t;
+    let mut at = 0;
+    while at < some.len() {
+        let q = text::gather_line(some, at, line, r.size);
+        r.size = q.size;
+        if q.whole {
+            r = answer(line, body, list, outbound, queue, out, r);
+        }
+        at = q.next;
+    }
+    r
+}
+
+// A last line that has no end counts.
+fn answer_last(
+    line: &[u8; 131076],
+    body: &mut [u8; 65537],
+    list: &mut [u64; 4096],
+    outbound: &mut [u8; 65536],
+    queue: &mut [u8; 32768],
+    out: &mut [u8; 65536],
+    t: Script,
+) -> usize
+    requires { ⌜ t .used ≤ 65536 ⌝ }
+    ensures { λ r. ⌜ r ≤ 65536 ⌝ }
+{
+    if t.size == 0 {
+        return t.used;
+    }
+    let r = answer(line, body, list, outbound, queue, out, t);
+    r.used
+}
+
+// Answers all of standard input, for a fresh session that starts at message_number.
+pub fn run(message_number: u64) {
+    let mut chunk = io::large_buffer();
+    let mut line = [0u8; 131076];
+    let mut body = [0u8; 65537];
+    let mut list = [0u64; 4096];
+    let mut outbound = [0u8; 65536];
+    let mut queue = [0u8; 32768];
+    let mut out = io::large_buffer();
+    let mut t = begin(message_number, &mut outbound, &mut queue);
+    let mut turns = u64::MAX;
+    while turns > 0 {
+        let n = lines::read_some(&mut chunk);
+        if n == 0 {
+            break;
+        }
+        t = answer_chunk(
+            &chunk,
+            n,
+            &mut line,
+            &mut body,
+            &mut list,
+            &mut outbound,
+            &mut queue,
+            &mut out,
+            t,
+        );
+        turns -= 1;
+    }
+    let used = answer_last(
+        &line,
+        &mut body,
+        &mut list,
+        &mut outbound,
+        &mut queue,
+        &mut out,
+        t,
+    );
+    lines::flush(&out, used);
+}
