@@ -2,9 +2,10 @@
 use crate::reading::Call;
 use peer_session::SessionState;
 use rules::Answer;
-use rules::Policy;
 use rules::PreparedCommit;
+use rules::Refusal;
 use session::Returned;
+use starts::LinkClass;
 use starts::Reliable;
 
 // A class 2 session with nothing unacked.
@@ -14,11 +15,8 @@ pub fn start(message_number: u64, outbound: &mut [u8], queue: &mut [u8]) -> Retu
         remote_number: 0,
         disposition: 0,
     };
-    let policy = Policy {
-        gap: 256,
-        messages: 256,
-        bytes: 32768,
-        body: 4096,
+    let LinkClass::Known(policy) = starts::link_class(2) else {
+        return session::refused(SessionState::none(), Refusal::UnknownCode);
     };
     let zeros = [0u64; 1];
     let none = &zeros[..0];

@@ -7,6 +7,8 @@ ghost use lib.Dec.{leb};
 ghost use Rattle.rules.specs.Lists.{total, itself, all, rising};
 ghost use Rattle.rules.specs.Start.{good-policy, good-reject, start};
 ghost use Rattle.rules.specs.Buffers.{filled};
+ghost use Rattle.rules.specs.Start.{policy-of, link-class};
+ghost use Rattle.starts.specs.Classes.{classOf};
 ghost use Rattle.starts.specs.Started.{short-record, Started};
 ghost use Rattle.starts.specs.Records.{reliableOf, under, GoodMessages, GoodRecord, Fitting, Recorded, Rejecting, Beginning, Begun, verdictOf, NotStarted};
 use outbox::Outbox;
@@ -298,4 +300,41 @@ pub fn start(
         answer: Answer::Done,
         events: 0,
     }
+}
+
+// ---- link classes
+
+// The policy of a class, if it is one of the four.
+pub enum LinkClass {
+    Known(Policy),
+    Unknown,
+}
+
+pub fn policy(gap: u64, messages: usize, bytes: usize, body: usize) -> Policy
+    ensures { λ r. ⌜ r ≡ policy-of gap messages bytes body ⌝ }
+{
+    Policy {
+        gap: gap,
+        messages: messages,
+        bytes: bytes,
+        body: body,
+    }
+}
+
+pub fn link_class(class: u64) -> LinkClass
+    ensures { λ r. ⌜ r ≡ classOf (link-class class) ⌝ }
+{
+    if class == 0 {
+        return LinkClass::Known(policy(8, 8, 1024, 128));
+    }
+    if class == 1 {
+        return LinkClass::Known(policy(64, 64, 8192, 512));
+    }
+    if class == 2 {
+        return LinkClass::Known(policy(256, 256, 32768, 4096));
+    }
+    if class == 3 {
+        return LinkClass::Known(policy(256, 256, 32768, 16384));
+    }
+    LinkClass::Unknown
 }
