@@ -13,12 +13,11 @@ use Rattle.rules.specs.Lists.{Bytes, if_then_else_, empty, total}
 use Rattle.rules.specs.State as R
 use Rattle.rules.specs.State.{size-of, unacked-is, disposition-is}
 use Rattle.rules.specs.Clock.{raised}
-use Rattle.rules.specs.Progress.{Progress, stays, halts}
+use Rattle.rules.specs.Progress.{stays, halts}
 use Rattle.rules.specs.Sending.{exhausted, no-room, fresh, numbered, allocate}
-use Rattle.rules.specs.Setup.{reject-session, receive-proposal, discard-outbound, reject-inbound}
+use Rattle.rules.specs.Setup.{reject-session, receive-proposal, discard-outbound}
 use Rattle.events.specs.declared.Stop.the-variants.{No, By}
 use Rattle.delivery.specs.declared.Turn.{Turn}
-use Rattle.delivery.specs.declared.Proposed.{Proposed}
 use Rattle.delivery.specs.Turns.{acted, after-sending, during, Under}
 use Rattle.delivery.specs.Acts.{Proposes, Rejects}
 

@@ -1,6 +1,6 @@
 -- A queue that rises, its next frame, and the rule book's turn by its tests. Assumes nothing.
 use mathlib.Core.Path.{_≡_, refl, sym, ap, _∙_, subst}
-use mathlib.Core.Bool.{Bool, true, false, not, _&&_}
+use mathlib.Core.Bool.{Bool, true, false, not}
 use mathlib.Core.List.{List, [], _∷_, _++_}
 use mathlib.Core.Option.{Option, none, some}
 use Prim.Native.Nat.{ℕ, zero, suc, _+_, _-_, _≤_, _<_}
@@ -8,7 +8,7 @@ use native.Mathlib.Omega.{arith}
 use native.Mathlib.Numerals.{add-one}
 use lib.ListN.{length, take, drop, getD, set, length-take, length-drop, length-set}
 use lib.Seq.{slice, drop-drop, length-take-le, take-suc, getD-take}
-use lib.Dec.{eqb, ltb, leb}
+use lib.Dec.{ltb, leb}
 use borrow.Author.Tests.{ltb-true, leb-true, lt-ltb, le-leb, eq-eqb, ne-eqb}
 use Rattle.stores.specs.Packed.{cut}
 use Rattle.stores.proofs.Packs.{slice-step, drop-cut, total-snoc, take-set-snoc}
@@ -121,46 +121,50 @@ all-drop p zero xs h = h
 all-drop p (suc i) [] h = h
 all-drop p (suc i) (x ∷ xs) h = all-drop p i xs (and-right (p x) (all p xs) h)
 
-module _ (x : Queue) (q : Bytes) (ex : ExactQueue x (length q)) (i a : ℕ) (ea : a ≡ total lenQ (take i (usedQ x))) (h : i < x .count) where
-  abbrev u : Queued
-  u = getD (x .records) i blankQ
+abbrev pub recordAt : Queue → ℕ → Queued
+recordAt x i = getD (x .records) i blankQ
 
-  pub start-on : a + getD (x .records) i blankQ .len ≡ total lenQ (take (i + 1) (usedQ x))
+-- with its body, which starts at byte a
+abbrev pub frameAt : Queue → ℕ → ℕ → Bytes → R.Frame
+frameAt x i a q = frame (recordAt x i) (take (recordAt x i .len) (drop a q))
+
+module _ (x : Queue) (q : Bytes) (ex : ExactQueue x (length q)) (i a : ℕ) (ea : a ≡ total lenQ (take i (usedQ x))) (h : i < x .count) where
+  pub start-on : a + recordAt x i .len ≡ total lenQ (take (i + 1) (usedQ x))
   start-on =
       let n : i < length (usedQ x) = simp length-take (omega (arith, ex .full, ex .few)) in
-      let e : take (i + 1) (usedQ x) ≡ take i (usedQ x) ++ (u ∷ []) =
+      let e : take (i + 1) (usedQ x) ≡ take i (usedQ x) ++ (recordAt x i ∷ []) =
       ap (λ (k : ℕ). take k (usedQ x)) (add-one i)
       ∙ take-suc (usedQ x) i blankQ n
       ∙ ap (λ (v : Queued). take i (usedQ x) ++ (v ∷ [])) (getD-take (x .count) (x .records) i blankQ h) in
-      ap (λ (k : ℕ). k + u .len) ea ∙ sym (total-snoc lenQ (take i (usedQ x)) u) ∙ ap (total lenQ) (sym e)
+      ap (λ (k : ℕ). k + recordAt x i .len) ea ∙ sym (total-snoc lenQ (take i (usedQ x)) (recordAt x i)) ∙ ap (total lenQ) (sym e)
 
-  pub start-small : a + getD (x .records) i blankQ .len ≤ 32768
+  pub start-small : a + recordAt x i .len ≤ 32768
   start-small = omega (arith, start-on, start-within x (i + 1), ex .small)
 
   pub frames-step : drop i (framesOf x q)
-      ≡ frame (getD (x .records) i blankQ) (take (getD (x .records) i blankQ .len) (drop a q)) ∷ drop (i + 1) (framesOf x q)
+      ≡ frameAt x i a q ∷ drop (i + 1) (framesOf x q)
   unfolding framesOf cut
   frames-step =
-      let y : List R.Frame = cut lenQ frame (slice (i + 1) (x .count) (x .records)) (drop (u .len) (drop a q)) in
-      let e : drop i (cut lenQ frame (usedQ x) q) ≡ frame u (take (u .len) (drop a q)) ∷ y =
+      let y : List R.Frame = cut lenQ frame (slice (i + 1) (x .count) (x .records)) (drop (recordAt x i .len) (drop a q)) in
+      let e : drop i (cut lenQ frame (usedQ x) q) ≡ frameAt x i a q ∷ y =
       drop-cut lenQ frame i (usedQ x) q
       ∙ ap (λ (k : ℕ). cut lenQ frame (drop i (usedQ x)) (drop k q)) (sym ea)
       ∙ ap (λ (l : List Queued). cut lenQ frame l (drop a q)) (slice-step (x .records) i (x .count) blankQ h (omega (arith, ex .full, ex .few))) in
-      e ∙ ap (λ (l : List R.Frame). frame u (take (u .len) (drop a q)) ∷ l) (sym (ap (drop 1) e) ∙ drop-drop 1 i (cut lenQ frame (usedQ x) q))
+      e ∙ ap (λ (l : List R.Frame). frameAt x i a q ∷ l) (sym (ap (drop 1) e) ∙ drop-drop 1 i (cut lenQ frame (usedQ x) q))
 
-  pub body-size : length (take (getD (x .records) i blankQ .len) (drop a q)) ≡ getD (x .records) i blankQ .len
-  body-size = part-size q a (u .len) (omega (arith, start-small, ex .room))
+  pub body-size : length (frameAt x i a q .body) ≡ recordAt x i .len
+  body-size = part-size q a (recordAt x i .len) (omega (arith, start-small, ex .room))
 
-  pub size-step : total frame-size (drop i (framesOf x q)) ≡ getD (x .records) i blankQ .len + total frame-size (drop (i + 1) (framesOf x q))
+  pub size-step : total frame-size (drop i (framesOf x q)) ≡ recordAt x i .len + total frame-size (drop (i + 1) (framesOf x q))
   unfolding total
   size-step = ap (total frame-size) frames-step ∙ ap (λ (k : ℕ). k + total frame-size (drop (i + 1) (framesOf x q))) body-size
 
-  pub number-last : all (up-to 18446744073709551614) (framesOf x q) ≡ true → getD (x .records) i blankQ .number ≤ 18446744073709551614
+  pub number-last : all (up-to 18446744073709551614) (framesOf x q) ≡ true → recordAt x i .number ≤ 18446744073709551614
   unfolding all
   number-last l =
-      let e : all (up-to 18446744073709551614) (frame u (take (u .len) (drop a q)) ∷ drop (i + 1) (framesOf x q)) ≡ true =
+      let e : all (up-to 18446744073709551614) (frameAt x i a q ∷ drop (i + 1) (framesOf x q)) ≡ true =
       subst (λ (fs : List R.Frame). all (up-to 18446744073709551614) fs ≡ true) frames-step (all-drop (up-to 18446744073709551614) i (framesOf x q) l) in
-      leb-true (u .number) 18446744073709551614 (and-left (leb (u .number) 18446744073709551614) _ e)
+      leb-true (recordAt x i .number) 18446744073709551614 (and-left (leb (recordAt x i .number) 18446744073709551614) _ e)
 
 -- ---- an ack above those that wait
 
@@ -178,18 +182,18 @@ all-and-last m n (k ∷ ns) l h =
     let b : k ≤ m = leb-true k m (and-left (leb k m) (all (at-most m) ns) h) in
     and-both (leb k n) _ (le-leb k n (omega arith)) (all-and-last m n ns l (and-right (leb k m) (all (at-most m) ns) h))
 
-module _ (w : Numbers) (ex : ExactNumbers w) (c : w .count < 512) (m n : ℕ) (l : m < n) (b : all (at-most m) (inUse w) ≡ true) where
-  abbrev more : Numbers
-  more = record { values = set (w .values) (w .count) n; count = w .count + 1 }
+abbrev pub with-last : ℕ → Numbers → Numbers
+with-last n w = record { values = set (w .values) (w .count) n; count = w .count + 1 }
 
-  use-more : inUse (record { values = set (w .values) (w .count) n; count = w .count + 1 }) ≡ inUse w ++ (n ∷ [])
+module _ (w : Numbers) (ex : ExactNumbers w) (c : w .count < 512) (m n : ℕ) (l : m < n) (b : all (at-most m) (inUse w) ≡ true) where
+  use-more : inUse (with-last n w) ≡ inUse w ++ (n ∷ [])
   use-more = take-set-snoc (w .values) (w .count) n (omega (arith, ex .full))
 
-  pub put-more : put itself n (inUse w) ≡ inUse (record { values = set (w .values) (w .count) n; count = w .count + 1 })
+  pub put-more : put itself n (inUse w) ≡ inUse (with-last n w)
   put-more = put-last itself n (inUse w) (all-below m n (inUse w) l b) ∙ sym use-more
 
-  pub exact-more : ExactNumbers (record { values = set (w .values) (w .count) n; count = w .count + 1 })
+  pub exact-more : ExactNumbers (with-last n w)
   exact-more = record { full = length-set (w .values) (w .count) n ∙ ex .full; few = omega arith }
 
-  pub behind-more : all (at-most n) (inUse (record { values = set (w .values) (w .count) n; count = w .count + 1 })) ≡ true
+  pub behind-more : all (at-most n) (inUse (with-last n w)) ≡ true
   behind-more = subst (λ (ns : List ℕ). all (at-most n) ns ≡ true) (sym use-more) (all-and-last m n (inUse w) l b)

@@ -1,19 +1,17 @@
 -- What a mode does with a message, and a delivery, against the rule book. Assumes nothing.
 use mathlib.Core.Path.{_≡_, refl, sym, ap, _∙_}
-use mathlib.Core.Bool.{Bool, true, false}
-use mathlib.Core.List.{List, [], _∷_}
-use Prim.Native.Nat.{ℕ, _+_, _*_, _≤_}
+use mathlib.Core.List.{List}
+use Prim.Native.Nat.{ℕ, _+_, _≤_}
 use native.Mathlib.Omega.{arith}
 use lib.ListN.{length}
-use lib.Dec.{eqb}
 use borrow.Author.Tests.{eq-eqb, ne-eqb}
 use Rattle.rules.specs.declared.ReceiveMode.{ReceiveMode}
 use Rattle.rules.specs.declared.ReceiveMode.the-variants.{Raw, Proposal, Channel, Rejection, Retiring}
 use Rattle.rules.specs.declared.Refusal.{Refusal}
 use Rattle.rules.specs.declared.Refusal.the-variants.{NotAProposal}
-use Rattle.rules.specs.Lists.{Bytes, if_then_else_}
+use Rattle.rules.specs.Lists.{Bytes}
 use Rattle.rules.specs.State as R
-use Rattle.rules.specs.Progress.{Progress, stays, halts, listing, _then_, request}
+use Rattle.rules.specs.Progress.{Progress, stays, halts, _then_, request}
 use Rattle.rules.specs.Setup.{receive-proposal}
 use Rattle.rules.specs.Receiving.{delivered, hand-over, consume, confirm, deliver}
 use Rattle.rules.proofs.Progress.{listing-none}

@@ -12,7 +12,7 @@ use Rattle.stores.proofs.Laws.{placed-none}
 use Rattle.rules.specs.declared.Clock.{Clock}
 use Rattle.rules.specs.Lists.{Bytes, if_then_else_, packed}
 use Rattle.rules.specs.State as R
-use Rattle.rules.specs.Events.{Event, commit-requested, message, handed, listed}
+use Rattle.rules.specs.Events.{commit-requested, message, handed, listed}
 use Rattle.rules.specs.Buffers.{flat}
 use Rattle.events.specs.Written.{Listed, asked, Books, books, write}
 use Rattle.events.proofs.Laws.{books-cong}

@@ -3,7 +3,7 @@ use native.Mathlib.Omega.{arith}
 use borrow.Author.Tests.{not-true, not-false}
 use Prim.Native.Nat.{_-_}
 use Rattle.events.specs.Written.{books}
-use Rattle.delivery.proofs.Drains.{Turns, turns-none, turns-more, ready, reaches, next-small, on-small, has-room, out-unavailable, out-empty, out-later, out-undeliverable, out-refused}
+use Rattle.delivery.proofs.Drains.{Turns, turns-none, turns-more, ready, reaches, next-small, on-small, out-unavailable, out-empty, out-later, out-undeliverable, out-refused}
 use borrow.Author.Needs.{needs}
 use Rattle.delivery.proofs.drain.Statement.{statement}
 use Rattle.delivery.proofs.drain.Tie as tie
