@@ -28,7 +28,7 @@ use Rattle.delivery.specs.declared.Turn.{Turn}
 use Rattle.delivery.specs.declared.Step.{Step}
 use Rattle.delivery.specs.declared.Drained.{Drained}
 use Rattle.delivery.specs.Turns.{during, Under, Ready, Delivered, left-by, acked-by, Draining, Drains}
-use Rattle.delivery.specs.Acts.{Available, Deliverable}
+use Rattle.delivery.specs.Acts.{Available, Deliverable, drainedBy}
 use Rattle.delivery.proofs.Queues.{recordAt, frameAt, with-last, turn-off, turn-none, turn-not, turn-goes, first-nothing, head-above, tail-above, kept-head, next-none, next-some, start-on, start-small, frames-step, body-size, size-step, number-last, put-more, exact-more, behind-more}
 
 -- What the loop keeps, at frame i, whose body starts at byte a: the drain from here on comes to what the whole drain comes to.
@@ -72,8 +72,12 @@ turns-none status t w x i q b a d e =
       left = λ s us u. ap (λ (k : ℕ). final us (drains k status (during s (drop i (framesOf x q)) (inUse w) t)) b) (sym n);
     }
 
-abbrev pub drained : Turn → Numbers → ℕ → Books → Stop → Drained
-drained t w i b z = record { turn = t; waiting = w; taken = i; events = b .n; at = b .at; stop = z }
+abbrev drained : Turn → Numbers → ℕ → Books → Stop → Drained
+drained t w i b z = drainedBy t w i (b .n) (b .at) z
+
+pub drains-as : {status : HostStatus} {t : Turn} {w : Numbers} {x : Queue} {i : ℕ} {q : Bytes} {b : Books} {r r′ : Drained} {l′ : List ℕ} {d′ : Bytes} → r ≡ r′
+    → Drains status t w x i q b r′ l′ d′ → Drains status t w x i q b r l′ d′
+drains-as {status} {t} {w} {x} {i} {q} {b} {r} {r′} {l′} {d′} e h = subst (λ (z : Drained). Drains status t w x i q b z l′ d′) (sym e) h
 
 module _ {status : HostStatus} {t₀ : Turn} {w₀ : Numbers} {x : Queue} {i₀ : ℕ} {q : Bytes} {b₀ : Books} {t : Turn} {w : Numbers} {i a : ℕ} {b : Books}
     (v : Turns status t₀ w₀ x i₀ q b₀ t w i a b) where
