@@ -5,7 +5,7 @@ use mathlib.Core.List.{List, _∷_}
 use mathlib.Core.Option.{some}
 use Prim.Native.Nat.{ℕ, suc, _+_, _-_, _*_, _≤_, _<_}
 use native.Mathlib.Omega.{arith}
-use lib.ListN.{length, take, drop, getD, set, length-drop, drop-of-length-le}
+use lib.ListN.{length, take, drop, length-drop, drop-of-length-le}
 use Rattle.rules.specs.declared.HostStatus.{HostStatus}
 use Rattle.rules.specs.declared.Refusal.{Refusal}
 use Rattle.rules.specs.Lists.{Bytes, kept, all, first, total, put, rising, itself}
@@ -20,9 +20,8 @@ use Rattle.events.specs.Written.{Books, books, Within, final, ends}
 use Rattle.events.proofs.Laws.{write-none, then-goes, then-stops}
 use Rattle.numbers.specs.declared.Numbers.{Numbers}
 use Rattle.numbers.specs.Seats.{inUse, ExactNumbers}
-use Rattle.queue.specs.declared.Queued.{Queued}
 use Rattle.queue.specs.declared.Queue.{Queue}
-use Rattle.queue.specs.View.{lenQ, frame, blankQ, usedQ, framesOf}
+use Rattle.queue.specs.View.{lenQ, usedQ, framesOf}
 use Rattle.queue.proofs.View.{frames-length}
 use Rattle.delivery.specs.declared.Turn.{Turn}
 use Rattle.delivery.specs.declared.Step.{Step}
