@@ -3,3 +3,4 @@ pub mod Held
 pub mod View
 pub mod Sends
 pub mod Fresh
+pub mod Breaks

@@ -3,3 +3,4 @@ pub mod View
 pub mod Sound
 pub mod New
 pub mod Allocates
+pub mod Breaks

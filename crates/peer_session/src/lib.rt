@@ -6,7 +6,9 @@ ghost use Rattle.numbers.specs.Seats.{Holds};
 ghost use Rattle.rules.specs.Lists.{if_then_else_};
 ghost use lib.ListN.{length};
 ghost use Rattle.outbox.specs.View.{ExactOutbox};
+ghost use Rattle.queue.specs.View.{ExactQueue};
 ghost use Rattle.peer_session.specs.Allocates.{Allocates};
+ghost use Rattle.peer_session.specs.Breaks.{failedIn, Broken};
 ghost use Rattle.peer_session.specs.View.{held};
 ghost use Rattle.peer_session.specs.Sound.{soundAcks, soundSizes, Checked};
 ghost use Rattle.peer_session.specs.New.{New, nothing, NoMessages, NoFrames, NoHandoff};
@@ -240,6 +242,37 @@ pub fn allocate(o: Outbox, store: &mut [u8], body: &[u8]) -> Allocated
         outbox: more,
         stop: Stop::No,
     }
+}
+
+// ---- a refusal of data or of an ack
+
+// A channel fails by it.
+fn failed_in(mode: ReceiveMode, before: bool) -> bool
+    ensures { λ r. ⌜ r ≡ failedIn mode before ⌝ }
+{
+    match mode {
+        ReceiveMode::Raw => before,
+        ReceiveMode::Proposal => before,
+        ReceiveMode::Channel => true,
+        ReceiveMode::Rejection => before,
+        ReceiveMode::Retiring => before,
+    }
+}
+
+// The Rust's `failure` but for its notice: the queue is emptied, and failed is set in Channel mode.
+pub fn broken(s: SessionState, queue: &mut [u8]) -> SessionState
+    requires { ⌜ ExactQueue (s .queue) (length (now queue)) ⌝ }
+    ensures { λ r. ⌜ Broken s (now (queue .entry)) r (now (queue .exit)) ⌝ }
+{
+    let q = s.queue;
+    let none = queue::clear(q, queue);
+    let g = s.stage;
+    let mode = g.mode;
+    let failed = failed_in(mode, g.failed);
+    let mut r = s;
+    r.queue = none;
+    r.stage.failed = failed;
+    r
 }
 
 // ---- whether a session is one that calls leave

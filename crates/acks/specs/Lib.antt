@@ -1,0 +1,2 @@
+-- The definitions that the contracts of `acks` cite.
+pub mod Steps
