@@ -5,8 +5,10 @@ ghost use Prim.Native.Nat.{_+_, _*_, _≤_};
 ghost use lib.ListN.{length, take};
 ghost use Rattle.outbox.specs.Steps.{Room, Appended};
 ghost use Rattle.queue.specs.View.{ExactQueue};
+ghost use Rattle.numbers.specs.Seats.{ExactNumbers};
 ghost use Rattle.peer_session.specs.View.{rejectOf};
 ghost use Rattle.receiving.specs.Turns.{turnOf, Settling, Settles, Advances, Finishing, Finishes};
+ghost use Rattle.receiving.specs.Checks.{Filled, Checked, Acknowledges, Acknowledging};
 ghost use Rattle.receiving.specs.Ends.{Fails, Abandoning, Abandons, Carrying, Carries};
 use delivery::Turn;
 use events::Stop;
@@ -22,6 +24,15 @@ pub struct Ended {
     pub session: SessionState,
     pub events: usize,
     pub stop: Stop,
+}
+
+// What becomes of data.
+pub enum Verdict {
+    Refuse(Refusal),
+    Fail(Refusal),
+    // a duplicate
+    Again,
+    New,
 }
 
 // ---- a turn, and what it leaves
@@ -144,4 +155,83 @@ fn abandon(
 {
     let r = advance(s, outbound, t, w);
     fail(r, list, n, queue, x)
+}
+
+// ---- checks
+
+// 26: the acks that wait and the frames in the queue are 512 together, and the number is in neither, nor answered by code 10.
+fn acks_full(s: SessionState, number: u64) -> bool
+    requires { ⌜ (ExactNumbers (s .waiting)) × (s .queue .count ≤ 256) ⌝ }
+    ensures { λ r. ⌜ Filled number s r ⌝ }
+{
+    let w = s.waiting;
+    let q = s.queue;
+    if w.count + q.count < SessionState::MAX_WAITING_AND_QUEUED {
+        return false;
+    }
+    if numbers::has(w, number) {
+        return false;
+    }
+    if queue::find(q, number) {
+        return false;
+    }
+    if s.remote < number {
+        return true;
+    }
+    s.released < number
+}
+
+// 4; of a number above remote 5 and 6; 26.
+fn check(s: SessionState, number: u64, len: usize) -> Verdict
+    requires { ⌜ (ExactNumbers (s .waiting)) × (s .queue .count ≤ 256) ⌝ }
+    ensures { λ r. ⌜ Checked number len s r ⌝ }
+{
+    if s.policy.body < len {
+        return Verdict::Fail(Refusal::BodyTooLong);
+    }
+    if s.remote < number {
+        if s.policy.gap < number - (s.remote + 1) {
+            return Verdict::Fail(Refusal::GapTooWide);
+        }
+        if SessionState::LAST_REMOTE < number {
+            return Verdict::Refuse(Refusal::LastNumber);
+        }
+        if acks_full(s, number) {
+            return Verdict::Refuse(Refusal::AcksFull);
+        }
+        return Verdict::New;
+    }
+    if acks_full(s, number) {
+        return Verdict::Refuse(Refusal::AcksFull);
+    }
+    Verdict::Again
+}
+
+// ---- data
+
+// A duplicate: its acknowledgement was lost, or waits for its commit.
+fn receive_again(s: SessionState, list: &mut [u64], number: u64) -> Ended
+    requires { ⌜ Acknowledging number s (length (now list)) ⌝ }
+    ensures { λ r. ⌜ Acknowledges number s (now (list .entry)) r (now (list .exit)) ⌝ }
+{
+    let c = s.clock;
+    if number <= s.released {
+        events::emit(list, 0, 10, number, 0, 0);
+        let n = events::request(c, list, 1);
+        return Ended {
+            session: s,
+            events: n,
+            stop: Stop::No,
+        };
+    }
+    let w = s.waiting;
+    let more = numbers::put(w, number);
+    let mut r = s;
+    r.waiting = more;
+    let n = events::request(c, list, 0);
+    Ended {
+        session: r,
+        events: n,
+        stop: Stop::No,
+    }
 }
