@@ -5,6 +5,7 @@ use mathlib.Core.Bool.{Bool}
 use mathlib.Core.List.{List, [], _∷_}
 use lib.ListN.{length}
 use Rattle.stores.specs.Placed.{placed}
+use Rattle.rules.specs.declared.HostStatus.{HostStatus}
 use Rattle.rules.specs.declared.ReceiveMode.{ReceiveMode}
 use Rattle.rules.specs.Lists.{Bytes}
 use Rattle.rules.specs.State as R
@@ -12,7 +13,7 @@ use Rattle.rules.specs.Events.{message, listed}
 use Rattle.rules.specs.Progress.{Progress, stays, _then_, request}
 use Rattle.rules.specs.Buffers.{flat}
 use Rattle.rules.specs.Setup.{receive-proposal, reject-inbound}
-use Rattle.rules.specs.Receiving.{hand-over}
+use Rattle.rules.specs.Receiving.{available, deliverable, hand-over}
 use Rattle.events.specs.Written.{Books, books, final, ends, ended}
 use Rattle.delivery.specs.declared.Turn.{Turn}
 use Rattle.delivery.specs.declared.Step.{Step}
@@ -72,3 +73,10 @@ pub record ReadyIn (m : ReceiveMode) (t : Turn) (len listed n delivery at : ℕ)
 -- a question of the rule book's
 abbrev pub Answers : (R.State → Bool) → Turn → Bool → Type 0
 Answers p t r = (s : R.State) (fs : List R.Frame) (ws : List ℕ) → Under s t → r ≡ p (during s fs ws t)
+
+abbrev pub Available : HostStatus → Turn → Bool → Type 0
+Available status t r = Answers (available status) t r
+
+-- whatever the body is
+abbrev pub Deliverable : ℕ → ℕ → Turn → Bool → Type 0
+Deliverable n k t r = (b : Bytes) → Answers (deliverable (frameOf n k b)) t r

@@ -2,14 +2,18 @@
 // `reject_inbound`, `delivered` of the state).
 ghost use mathlib.Core.Path.{_≡_};
 ghost use Prim.Native.Nat.{_+_, _*_, _≤_};
-ghost use lib.ListN.{length};
+ghost use lib.ListN.{length, take, drop};
 ghost use Rattle.rules.specs.declared.ReceiveMode.the-variants.{Proposal, Rejection};
 ghost use Rattle.events.specs.Written.{books};
-ghost use Rattle.delivery.specs.Turns.{frameOf, Ready, Consumed, Delivered};
-ghost use Rattle.delivery.specs.Acts.{HandedOver, Proposes, Rejects, Did, rejected, taken, answered, ReadyIn};
+ghost use Rattle.queue.specs.View.{frame};
+ghost use Rattle.delivery.specs.Turns.{frameOf, Ready, Consumed, Delivered, Draining, Drains};
+ghost use Rattle.delivery.specs.Acts.{HandedOver, Proposes, Rejects, Did, rejected, taken, answered, ReadyIn, Available, Deliverable};
 use events::Stop;
 use numbers::Numbers;
+use queue::Queue;
+use queue::Queued;
 use rules::Clock;
+use rules::HostStatus;
 use rules::ReceiveMode;
 use rules::Refusal;
 
@@ -330,5 +334,150 @@ pub fn deliver(
             at: a.at,
             stop: Stop::By(x),
         },
+    }
+}
+
+// ---- the drain
+
+// The host is there, and the mode listens. What it says of a channel means nothing: there is none.
+pub fn available(t: Turn, status: HostStatus) -> bool
+    ensures { λ r. ⌜ Available status t r ⌝ }
+{
+    if !status.available {
+        return false;
+    }
+    let mode = t.mode;
+    match mode {
+        ReceiveMode::Raw => true,
+        ReceiveMode::Proposal => {
+            if t.failed {
+                return false;
+            }
+            t.disposition != 3
+        }
+        ReceiveMode::Channel => false,
+        ReceiveMode::Rejection => true,
+        ReceiveMode::Retiring => true,
+    }
+}
+
+// Proposal mode takes message 1 and rejects.
+pub fn deliverable(t: Turn, number: u64, kind: u8) -> bool
+    ensures { λ r. ⌜ Deliverable number kind t r ⌝ }
+{
+    let mode = t.mode;
+    match mode {
+        ReceiveMode::Raw => true,
+        ReceiveMode::Proposal => {
+            if number == 1 {
+                return true;
+            }
+            kind == 2
+        }
+        ReceiveMode::Channel => true,
+        ReceiveMode::Rejection => true,
+        ReceiveMode::Retiring => true,
+    }
+}
+
+// The len bytes of a store from index start on.
+fn part(store: &[u8], start: usize, len: usize) -> &[u8]
+    requires { ⌜ start + len ≤ length (now store) ⌝ }
+    ensures { λ r. ⌜ now r ≡ take len (drop start (now (store .entry))) ⌝ }
+{
+    let end = start + len;
+    &store[start..end]
+}
+
+// A queued message, whose body starts at index start of the store, is delivered.
+fn deliver_queued(
+    t: Turn,
+    list: &mut [u64],
+    n: usize,
+    delivery: &mut [u8],
+    at: usize,
+    u: Queued,
+    store: &[u8],
+    start: usize,
+) -> Step
+    requires { ⌜ (start + u .len ≤ length (now store)) × Ready t (u .len) (length (now list)) n (length (now delivery)) at ⌝ }
+    ensures { λ r. ⌜ Delivered (frame u (take (u .len) (drop start (now (store .entry))))) t (books (now (list .entry)) n (now (delivery .entry)) at) r (now (list .exit)) (now (delivery .exit)) ⌝ }
+{
+    let len = u.len as usize;
+    let number = u.number;
+    let kind = u.kind;
+    let body = part(store, start, len);
+    deliver(t, list, n, delivery, at, number, kind, body)
+}
+
+// From frame `from` of the queue on, for as long as the host is available and the next message is there and deliverable. Its ack has the highest
+// number of those that wait.
+pub fn drain(
+    t: Turn,
+    w: Numbers,
+    q: Queue,
+    from: usize,
+    store: &[u8],
+    status: HostStatus,
+    list: &mut [u64],
+    n: usize,
+    delivery: &mut [u8],
+    at: usize,
+) -> Drained
+    requires { ⌜ Draining t w q from (now store) (books (now list) n (now delivery) at) ⌝ }
+    ensures { λ r. ⌜ Drains status t w q from (now (store .entry)) (books (now (list .entry)) n (now (delivery .entry)) at) r (now (list .exit)) (now (delivery .exit)) ⌝ }
+{
+    let count = q.count;
+    let mut turn = t;
+    let mut acks = w;
+    let mut i = from;
+    let mut start = queue::start(q, from);
+    let mut m = n;
+    let mut to = at;
+    'drain: while i < count {
+        if !available(turn, status) {
+            break 'drain;
+        }
+        let u = q.records[i];
+        let number = u.number;
+        if number != turn.remote + 1 {
+            break 'drain;
+        }
+        if !deliverable(turn, number, u.kind) {
+            break 'drain;
+        }
+        let a = deliver_queued(turn, list, m, delivery, to, u, store, start);
+        let r = a.turn;
+        let stop = a.stop;
+        turn = r;
+        m = a.events;
+        to = a.at;
+        match stop {
+            Stop::No => {
+                let k = acks.count;
+                acks.values[k] = number;
+                acks.count = k + 1;
+                start += u.len as usize;
+                i += 1;
+            }
+            Stop::By(x) => {
+                return Drained {
+                    turn: turn,
+                    waiting: acks,
+                    taken: i,
+                    events: m,
+                    at: to,
+                    stop: Stop::By(x),
+                };
+            }
+        }
+    }
+    Drained {
+        turn: turn,
+        waiting: acks,
+        taken: i,
+        events: m,
+        at: to,
+        stop: Stop::No,
     }
 }
