@@ -5,17 +5,15 @@ use mathlib.Core.List.{List, [], _∷_, _++_}
 use Prim.Native.Nat.{ℕ, _+_, _*_, _≤_, _<_}
 use native.Mathlib.Omega.{arith}
 use lib.ListN.{length}
-use lib.Dec.{ltb}
 use borrow.Author.Tests.{le-leb, lt-leb}
 use Rattle.stores.specs.Placed.{placed}
 use Rattle.rules.specs.declared.Clock.{Clock}
 use Rattle.rules.specs.Lists.{Bytes, if_then_else_, packed, put, itself}
 use Rattle.rules.specs.State.{Unacked, State}
-use Rattle.rules.specs.Events.{Event, commit-requested, answer-ack, handed, listed}
+use Rattle.rules.specs.Events.{answer-ack, listed}
 use Rattle.rules.specs.Progress.{Progress, goes, stays, _then_, request}
 use Rattle.rules.specs.Receiving.{receive-again, awaiting}
 use Rattle.rules.specs.Buffers.{flat}
-use Rattle.rules.proofs.Sound.{Sound, awaiting-sound}
 use Rattle.events.specs.declared.Stop.the-variants.{No}
 use Rattle.events.specs.Written.{ListedIn, Listed, asked, Books, books, write, Within, final, ends}
 use Rattle.events.proofs.Laws.{then-goes, write-none}
@@ -23,21 +21,17 @@ use Rattle.numbers.specs.declared.Numbers.{Numbers}
 use Rattle.numbers.specs.Seats.{inUse, Holds}
 use Rattle.peer_session.specs.declared.SessionState.{SessionState}
 use Rattle.peer_session.specs.View.{stateOf, Exact}
+use Rattle.delivery.proofs.Written.{write-asked}
 use Rattle.receiving.specs.declared.Ended.{Ended}
 use Rattle.receiving.specs.Checks.{again, Acknowledges}
 use Rattle.receiving.proofs.Failing.{listed-books}
 
 -- ---- a commit is requested, in the books
 
-none-handed : (b : Bool) → packed handed (if b then (commit-requested ∷ []) else []) ≡ []
-unfolding packed
-none-handed true = refl
-none-handed false = refl
-
 pub asked-final : (us : List Unacked) (t : State) {l l′ : List ℕ} {n n′ : ℕ} (d : Bytes) (at : ℕ) → Listed (asked (t .clock)) l n l′ n′
     → final us (request t) (books l n d at) ≡ ends No t (books l′ n′ d at)
 unfolding request
-asked-final us t d at h = ap (ends No t) (listed-books us d at (none-handed (ltb (t .clock .persisted) (t .clock .generation))) (h us))
+asked-final us t {l} {l′} {n} {n′} d at h = ap (ends No t) (write-asked (t .clock) (books l n d at) l′ n′ h us)
 
 pub fresh-books : (l : List ℕ) (d : Bytes) → Within (books l 0 d 0)
 fresh-books l d = record { listed = omega arith; filled = omega arith }

@@ -1,7 +1,7 @@
 -- What becomes of data, by the checks past its kind and the generation, and what the stores reach by it. Assumes nothing.
 use Prim.Native.Nat.{ℕ, _+_, _≤_, _<_}
 use mathlib.Core.Path.{_≡_}
-use mathlib.Core.Bool.{Bool, true, false, not}
+use mathlib.Core.Bool.{Bool, true, false, not, _||_}
 use mathlib.Core.List.{List, [], _∷_}
 use lib.ListN.{length}
 use Rattle.rules.specs.declared.HostStatus.{HostStatus}
@@ -12,7 +12,8 @@ use Rattle.rules.specs.declared.Answer.the-variants.{Flag, Refused}
 use Rattle.rules.specs.Lists.{Bytes, if_then_else_, every, put, itself}
 use Rattle.rules.specs.State.{Frame, State, Unacked}
 use Rattle.rules.specs.Progress.{Progress, _then_, request, halts, failing, Outcome, outcome, answers}
-use Rattle.rules.specs.Receiving.{duplicate, queued, too-long, too-far, past-last, acks-full, queue-full, queue-overrun, drain, receive-again, at-once, from-ahead, receive-new}
+use Rattle.rules.specs.Receiving.{duplicate, queued, too-long, too-far, past-last, acks-full, queue-full, queue-overrun, terminal, drain, receive-again, at-once, from-ahead, receive-new}
+use Rattle.rules.specs.Sound.{sound}
 use Rattle.rules.specs.Buffers.{queue-end}
 use Rattle.events.specs.declared.Stop.{Stop}
 use Rattle.events.specs.declared.Stop.the-variants.{No, By}
@@ -21,10 +22,12 @@ use Rattle.numbers.specs.Seats.{inUse, ExactNumbers}
 use Rattle.queue.specs.View.{ExactQueue}
 use Rattle.peer_session.specs.declared.SessionState.{SessionState}
 use Rattle.peer_session.specs.View.{stateOf, Exact}
-use Rattle.delivery.specs.Turns.{frameOf}
+use Rattle.delivery.specs.declared.Turn.{Turn}
+use Rattle.delivery.specs.Turns.{frameOf, during, Under}
 use Rattle.receiving.specs.declared.Verdict.{Verdict}
 use Rattle.receiving.specs.declared.Verdict.the-variants.{Refuse, Fail, Again, New}
 use Rattle.receiving.specs.declared.Ended.{Ended}
+use Rattle.receiving.specs.Turns.{turnOf}
 use Rattle.receiving.specs.Ends.{Stores}
 
 -- ---- the checks, in their order
@@ -101,6 +104,32 @@ pub record Ran (p : Progress) (s : SessionState) (reach : ℕ) (l : List ℕ) (d
   pub end : ℕ
   pub does : (us : List Unacked) → final us (failing p) (books l 0 d 0) ≡ ends (r .stop) (stateOf (r .session) o′ q′) (books l′ (r .events) d′ end)
   pub stores : Stores s reach o q (r .session) o′ q′
+
+-- what data that is no duplicate finds, and what it asks of the buffers
+pub record Receiving (f : Frame) (s : SessionState) (l : List ℕ) (d o q : Bytes) : Type 0 where
+  pub exact : Exact s (length o) (length q)
+  pub good : sound (stateOf s o q) ≡ true
+  pub frame : NewFrame f (stateOf s o q)
+  pub low : s .clock .generation < 4294966000
+  pub listed : 4096 ≤ length l
+  pub room : 49152 ≤ length d
+
+-- with the turn that begins, and whether it is delivered now
+pub record Taking (now : Bool) (status : HostStatus) (t : Turn) (f : Frame) (s : SessionState) (l : List ℕ) (d o q : Bytes) : Type 0 where
+  pub receiving : Receiving f s l d o q
+  pub turn : t ≡ turnOf s
+  pub is : (at-once status f (stateOf s o q) || from-ahead status f (stateOf s o q)) ≡ now
+
+abbrev pub Anew : HostStatus → Frame → SessionState → List ℕ → Bytes → Bytes → Bytes → Ended → List ℕ → Bytes → Bytes → Bytes → Type 0
+Anew status f s l d o q r l′ d′ o′ q′ = Ran (anew status f (stateOf s o q)) s (reachNew status f (stateOf s o q)) l d o q r l′ d′ o′ q′
+
+abbrev pub Terminal : ℕ → Turn → Bool → Type 0
+Terminal k t r = (n : ℕ) (b : Bytes) (s : State) (fs : List Frame) (ws : List ℕ) → Under s t → r ≡ terminal (frameOf n k b) (during s fs ws t)
+
+abbrev pub Delivers : HostStatus → ℕ → ℕ → Turn → Bool → Type 0
+Delivers status n k t r =
+    (b : Bytes) (s : State) (fs : List Frame) (ws : List ℕ) → Under s t
+    → r ≡ (at-once status (frameOf n k b) (during s fs ws t) || from-ahead status (frameOf n k b) (during s fs ws t))
 
 -- the answer, by the refusal that ended it
 abbrev pub told : Answer → Stop → Answer

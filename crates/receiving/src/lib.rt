@@ -1,14 +1,15 @@
 // Receiving: the Rust's `receive_data` and `consumer_ready` (session.rs), with what they do of the state.
 ghost use mathlib.Core.Path.{_≡_};
-ghost use mathlib.Core.List.{[]};
-ghost use Prim.Native.Nat.{_+_, _*_, _≤_};
+ghost use mathlib.Core.Bool.{Bool, true, false};
+ghost use Prim.Native.Nat.{_+_, _*_, _≤_, _<_};
 ghost use lib.ListN.{length, take};
 ghost use Rattle.outbox.specs.Steps.{Room, Appended};
 ghost use Rattle.queue.specs.View.{ExactQueue};
 ghost use Rattle.numbers.specs.Seats.{ExactNumbers};
 ghost use Rattle.peer_session.specs.View.{rejectOf};
+ghost use Rattle.delivery.specs.Turns.{frameOf};
 ghost use Rattle.receiving.specs.Turns.{turnOf, Settling, Settles, Advances, Finishing, Finishes};
-ghost use Rattle.receiving.specs.Checks.{Filled, Checked, Acknowledges, Acknowledging};
+ghost use Rattle.receiving.specs.Checks.{Filled, Checked, Acknowledges, Acknowledging, Receiving, Taking, Anew, Terminal, Delivers};
 ghost use Rattle.receiving.specs.Ends.{Fails, Abandoning, Abandons, Carrying, Carries};
 use delivery::Turn;
 use events::Stop;
@@ -17,6 +18,7 @@ use outbox::Outbox;
 use peer_session::RejectBody;
 use peer_session::SessionState;
 use rules::HostStatus;
+use rules::ReceiveMode;
 use rules::Refusal;
 
 // The session that a call ends with, the count of events, and the refusal that ended it.
@@ -157,6 +159,43 @@ fn abandon(
     fail(r, list, n, queue, x)
 }
 
+// ---- the drain, and the end of a call
+
+// Drains the queue from index from on, with n events and at delivery bytes so far, and stores what came of it.
+fn carry(
+    s: SessionState,
+    t: Turn,
+    w: Numbers,
+    from: usize,
+    status: HostStatus,
+    list: &mut [u64],
+    n: usize,
+    delivery: &mut [u8],
+    at: usize,
+    outbound: &mut [u8],
+    queue: &mut [u8],
+) -> Ended
+    requires { ⌜ Carrying t w from s (now list) n (now delivery) at (now outbound) (now queue) ⌝ }
+    ensures { λ r. ⌜ Carries status t w from s (now (list .entry)) n (now (delivery .entry)) at (now (outbound .entry)) (now (queue .entry)) r (now (list .exit)) (now (delivery .exit)) (now (outbound .exit)) (now (queue .exit)) ⌝ }
+{
+    let q = s.queue;
+    let d = delivery::drain(t, w, q, from, queue, status, list, n, delivery, at);
+    let turn = d.turn;
+    let waiting = d.waiting;
+    let stop = d.stop;
+    match stop {
+        Stop::By(x) => abandon(s, list, d.events, outbound, queue, turn, waiting, x),
+        Stop::No => {
+            let r = finish(s, outbound, queue, turn, waiting, d.taken);
+            Ended {
+                session: r,
+                events: d.events,
+                stop: Stop::No,
+            }
+        }
+    }
+}
+
 // ---- checks
 
 // 26: the acks that wait and the frames in the queue are 512 together, and the number is in neither, nor answered by code 10.
@@ -234,4 +273,157 @@ fn receive_again(s: SessionState, list: &mut [u64], number: u64) -> Ended
         events: n,
         stop: Stop::No,
     }
+}
+
+// In Proposal mode, a reject is taken from wherever it is ahead.
+fn terminal(t: Turn, kind: u8) -> bool
+    ensures { λ r. ⌜ Terminal kind t r ⌝ }
+{
+    let mode = t.mode;
+    match mode {
+        ReceiveMode::Raw => false,
+        ReceiveMode::Proposal => kind == 2,
+        ReceiveMode::Channel => false,
+        ReceiveMode::Rejection => false,
+        ReceiveMode::Retiring => false,
+    }
+}
+
+// Whether data is delivered now.
+fn delivers(t: Turn, status: HostStatus, number: u64, kind: u8) -> bool
+    requires { ⌜ t .remote < number ⌝ }
+    ensures { λ r. ⌜ Delivers status number kind t r ⌝ }
+{
+    if !delivery::available(t, status) {
+        return false;
+    }
+    if number == t.remote + 1 {
+        return delivery::deliverable(t, number, kind);
+    }
+    terminal(t, kind)
+}
+
+// Data that is delivered now: what was queued up to its number goes.
+fn take_now(
+    s: SessionState,
+    t: Turn,
+    status: HostStatus,
+    list: &mut [u64],
+    delivery: &mut [u8],
+    outbound: &mut [u8],
+    queue: &mut [u8],
+    number: u64,
+    kind: u8,
+    body: &[u8],
+) -> Ended
+    requires { ⌜ Taking true status t (frameOf number kind (now body)) s (now list) (now delivery) (now outbound) (now queue) ⌝ }
+    ensures { λ r. ⌜ Anew status (frameOf number kind (now (body .entry))) s (now (list .entry)) (now (delivery .entry)) (now (outbound .entry)) (now (queue .entry)) r (now (list .exit)) (now (delivery .exit)) (now (outbound .exit)) (now (queue .exit)) ⌝ }
+{
+    let a = delivery::deliver(t, list, 0, delivery, 0, number, kind, body);
+    let turn = a.turn;
+    let w = s.waiting;
+    let stop = a.stop;
+    match stop {
+        Stop::By(x) => abandon(s, list, a.events, outbound, queue, turn, w, x),
+        Stop::No => {
+            let acks = numbers::put(w, number);
+            let q = s.queue;
+            let from = queue::up_to(q, number);
+            let c = turn.clock;
+            let n = events::request(c, list, a.events);
+            carry(
+                s,
+                turn,
+                acks,
+                from,
+                status,
+                list,
+                n,
+                delivery,
+                a.at,
+                outbound,
+                queue,
+            )
+        }
+    }
+}
+
+// Data that waits for its turn: a number that is queued keeps its first copy.
+fn enqueue(
+    s: SessionState,
+    t: Turn,
+    status: HostStatus,
+    list: &mut [u64],
+    delivery: &mut [u8],
+    outbound: &mut [u8],
+    queue: &mut [u8],
+    number: u64,
+    kind: u8,
+    body: &[u8],
+) -> Ended
+    requires { ⌜ Taking false status t (frameOf number kind (now body)) s (now list) (now delivery) (now outbound) (now queue) ⌝ }
+    ensures { λ r. ⌜ Anew status (frameOf number kind (now (body .entry))) s (now (list .entry)) (now (delivery .entry)) (now (outbound .entry)) (now (queue .entry)) r (now (list .exit)) (now (delivery .exit)) (now (outbound .exit)) (now (queue .exit)) ⌝ }
+{
+    let q = s.queue;
+    let w = s.waiting;
+    let c = s.clock;
+    if queue::find(q, number) {
+        let n = events::request(c, list, 0);
+        return carry(s, t, w, 0, status, list, n, delivery, 0, outbound, queue);
+    }
+    if s.policy.messages < q.count + 1 {
+        return fail(s, list, 0, queue, Refusal::QueueCount);
+    }
+    let used = queue::used(q);
+    if s.policy.bytes < used + body.len() {
+        return fail(s, list, 0, queue, Refusal::QueueBytes);
+    }
+    let more = queue::insert(q, queue, number, kind, body);
+    let mut r = s;
+    r.queue = more;
+    let n = events::request(c, list, 0);
+    carry(r, t, w, 0, status, list, n, delivery, 0, outbound, queue)
+}
+
+fn receive_new(
+    s: SessionState,
+    status: HostStatus,
+    list: &mut [u64],
+    delivery: &mut [u8],
+    outbound: &mut [u8],
+    queue: &mut [u8],
+    number: u64,
+    kind: u8,
+    body: &[u8],
+) -> Ended
+    requires { ⌜ Receiving (frameOf number kind (now body)) s (now list) (now delivery) (now outbound) (now queue) ⌝ }
+    ensures { λ r. ⌜ Anew status (frameOf number kind (now (body .entry))) s (now (list .entry)) (now (delivery .entry)) (now (outbound .entry)) (now (queue .entry)) r (now (list .exit)) (now (delivery .exit)) (now (outbound .exit)) (now (queue .exit)) ⌝ }
+{
+    let t = turn_of(s);
+    if delivers(t, status, number, kind) {
+        return take_now(
+            s,
+            t,
+            status,
+            list,
+            delivery,
+            outbound,
+            queue,
+            number,
+            kind,
+            body,
+        );
+    }
+    enqueue(
+        s,
+        t,
+        status,
+        list,
+        delivery,
+        outbound,
+        queue,
+        number,
+        kind,
+        body,
+    )
 }
