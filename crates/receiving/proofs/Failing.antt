@@ -114,7 +114,7 @@ fails x s l n q r m l′ q′ h e k =
 
 -- ---- on its own, and after a turn
 
-same-unacked : (x : Outbox) (o : Bytes) → ExactOutbox x (length o) → o ≡ repacked (endU x) (packed body-of (unackedOf x o)) o
+pub same-unacked : (x : Outbox) (o : Bytes) → ExactOutbox x (length o) → o ≡ repacked (endU x) (packed body-of (unackedOf x o)) o
 same-unacked x o e =
     sym (repacked-same (endU x) (packed body-of (unackedOf x o)) o (packed-unacked x o) (length-packed body-of (unackedOf x o) ∙ sym (exact-total x o e)))
 

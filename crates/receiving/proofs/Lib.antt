@@ -9,3 +9,6 @@ pub mod Choice
 pub mod Next
 pub mod Now
 pub mod Later
+pub mod Calls
+pub mod Data
+pub mod Consumers

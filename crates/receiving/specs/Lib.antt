@@ -2,3 +2,4 @@
 pub mod Turns
 pub mod Ends
 pub mod Checks
+pub mod Calls

@@ -4,12 +4,16 @@ ghost use mathlib.Core.Bool.{Bool, true, false};
 ghost use Prim.Native.Nat.{_+_, _*_, _≤_, _<_};
 ghost use lib.ListN.{length, take};
 ghost use Rattle.outbox.specs.Steps.{Room, Appended};
+ghost use Rattle.rules.specs.Receiving.{mode-of};
+ghost use Rattle.rules.specs.Calls.{gets-data, is-ready};
 ghost use Rattle.queue.specs.View.{ExactQueue};
 ghost use Rattle.numbers.specs.Seats.{ExactNumbers};
 ghost use Rattle.peer_session.specs.View.{rejectOf};
+ghost use Rattle.session.specs.Promise.{lent, Called};
 ghost use Rattle.delivery.specs.Turns.{frameOf};
 ghost use Rattle.receiving.specs.Turns.{turnOf, Settling, Settles, Advances, Finishing, Finishes};
 ghost use Rattle.receiving.specs.Checks.{Filled, Checked, Acknowledges, Acknowledging, Receiving, Taking, Anew, Terminal, Delivers};
+ghost use Rattle.receiving.specs.Calls.{Arrived, returned, with-mode};
 ghost use Rattle.receiving.specs.Ends.{Fails, Abandoning, Abandons, Carrying, Carries};
 use delivery::Turn;
 use events::Stop;
@@ -17,9 +21,12 @@ use numbers::Numbers;
 use outbox::Outbox;
 use peer_session::RejectBody;
 use peer_session::SessionState;
+use peer_session::Stage;
+use rules::Answer;
 use rules::HostStatus;
 use rules::ReceiveMode;
 use rules::Refusal;
+use session::Returned;
 
 // The session that a call ends with, the count of events, and the refusal that ended it.
 pub struct Ended {
@@ -426,4 +433,212 @@ fn receive_new(
         kind,
         body,
     )
+}
+
+// What data answers, by the refusal that ended it.
+fn answered(e: Ended) -> Returned
+    ensures { λ r. ⌜ r ≡ returned e ⌝ }
+{
+    let s = e.session;
+    let stop = e.stop;
+    match stop {
+        Stop::No => Returned {
+            session: s,
+            answer: Answer::Flag(true),
+            events: e.events,
+        },
+        Stop::By(x) => Returned {
+            session: s,
+            answer: Answer::Refused(x),
+            events: e.events,
+        },
+    }
+}
+
+fn receive(
+    s: SessionState,
+    list: &mut [u64],
+    delivery: &mut [u8],
+    outbound: &mut [u8],
+    queue: &mut [u8],
+    status: HostStatus,
+    number: u64,
+    kind: u8,
+    body: &[u8],
+) -> Returned
+    requires { ⌜ (Arrived s (now list) (now delivery) (now outbound) (now queue)) × (kind ≤ 2) ⌝ }
+    ensures { λ r. ⌜ Called (gets-data status (frameOf number kind (now (body .entry)))) s (lent (now (list .entry)) (now (delivery .entry)) (now (outbound .entry)) (now (queue .entry))) r (lent (now (list .exit)) (now (delivery .exit)) (now (outbound .exit)) (now (queue .exit))) ⌝ }
+{
+    let verdict = check(s, number, body.len());
+    match verdict {
+        Verdict::Refuse(x) => session::refused(s, x),
+        Verdict::Fail(x) => {
+            let e = fail(s, list, 0, queue, x);
+            answered(e)
+        }
+        Verdict::Again => {
+            let e = receive_again(s, list, number);
+            answered(e)
+        }
+        Verdict::New => {
+            let e = receive_new(
+                s,
+                status,
+                list,
+                delivery,
+                outbound,
+                queue,
+                number,
+                kind,
+                body,
+            );
+            answered(e)
+        }
+    }
+}
+
+// The Rust's `receive_data`: a peer's data, with the kind of its body.
+pub fn receive_data(
+    s: SessionState,
+    list: &mut [u64],
+    delivery: &mut [u8],
+    outbound: &mut [u8],
+    queue: &mut [u8],
+    status: HostStatus,
+    number: u64,
+    kind: u64,
+    body: &[u8],
+) -> Returned
+    ensures { λ r. ⌜ Called (gets-data status (frameOf number kind (now (body .entry)))) s (lent (now (list .entry)) (now (delivery .entry)) (now (outbound .entry)) (now (queue .entry))) r (lent (now (list .exit)) (now (delivery .exit)) (now (outbound .exit)) (now (queue .exit))) ⌝ }
+{
+    if list.len() < SessionState::EVENT_WORDS {
+        return session::refused(s, Refusal::ShortBuffer);
+    }
+    if delivery.len() < SessionState::DELIVERY_BYTES {
+        return session::refused(s, Refusal::ShortBuffer);
+    }
+    if outbound.len() < SessionState::OUTBOUND_BYTES {
+        return session::refused(s, Refusal::ShortBuffer);
+    }
+    if queue.len() < SessionState::QUEUE_BYTES {
+        return session::refused(s, Refusal::ShortBuffer);
+    }
+    if 2 < kind {
+        return session::refused(s, Refusal::UnknownCode);
+    }
+    if !peer_session::sound(s) {
+        return session::refused(s, Refusal::BadRecord);
+    }
+    if SessionState::GENERATION_LIMIT <= s.clock.generation {
+        return session::refused(s, Refusal::GenerationsExhausted);
+    }
+    receive(
+        s,
+        list,
+        delivery,
+        outbound,
+        queue,
+        status,
+        number,
+        kind as u8,
+        body,
+    )
+}
+
+// ---- consumer ready
+
+fn mode_of(n: u64) -> ReceiveMode
+    ensures { λ r. ⌜ r ≡ mode-of n ⌝ }
+{
+    if n == 0 {
+        return ReceiveMode::Raw;
+    }
+    if n == 1 {
+        return ReceiveMode::Proposal;
+    }
+    if n == 2 {
+        return ReceiveMode::Channel;
+    }
+    if n == 3 {
+        return ReceiveMode::Rejection;
+    }
+    ReceiveMode::Retiring
+}
+
+fn take_mode(s: SessionState, mode: ReceiveMode) -> SessionState
+    ensures { λ r. ⌜ r ≡ with-mode mode s ⌝ }
+{
+    let g = s.stage;
+    let setup = g.setup;
+    let stage = Stage {
+        disposition: g.disposition,
+        setup: setup,
+        mode: mode,
+        failed: g.failed,
+    };
+    let mut r = s;
+    r.stage = stage;
+    r
+}
+
+// The queue of a sound session begins above remote: nothing in it is obsolete. A refusal that ends the drain is not returned.
+fn ready(
+    s: SessionState,
+    list: &mut [u64],
+    delivery: &mut [u8],
+    outbound: &mut [u8],
+    queue: &mut [u8],
+    status: HostStatus,
+    mode: u64,
+) -> Returned
+    requires { ⌜ (Arrived s (now list) (now delivery) (now outbound) (now queue)) × (mode ≤ 4) ⌝ }
+    ensures { λ r. ⌜ Called (is-ready status mode) s (lent (now (list .entry)) (now (delivery .entry)) (now (outbound .entry)) (now (queue .entry))) r (lent (now (list .exit)) (now (delivery .exit)) (now (outbound .exit)) (now (queue .exit))) ⌝ }
+{
+    let m = mode_of(mode);
+    let r = take_mode(s, m);
+    let t = turn_of(r);
+    let w = s.waiting;
+    let e = carry(r, t, w, 0, status, list, 0, delivery, 0, outbound, queue);
+    let left = e.session;
+    Returned {
+        session: left,
+        answer: Answer::Done,
+        events: e.events,
+    }
+}
+
+// The Rust's `consumer_ready`: what takes messages changed, and is ready.
+pub fn consumer_ready(
+    s: SessionState,
+    list: &mut [u64],
+    delivery: &mut [u8],
+    outbound: &mut [u8],
+    queue: &mut [u8],
+    status: HostStatus,
+    mode: u64,
+) -> Returned
+    ensures { λ r. ⌜ Called (is-ready status mode) s (lent (now (list .entry)) (now (delivery .entry)) (now (outbound .entry)) (now (queue .entry))) r (lent (now (list .exit)) (now (delivery .exit)) (now (outbound .exit)) (now (queue .exit))) ⌝ }
+{
+    if list.len() < SessionState::EVENT_WORDS {
+        return session::refused(s, Refusal::ShortBuffer);
+    }
+    if delivery.len() < SessionState::DELIVERY_BYTES {
+        return session::refused(s, Refusal::ShortBuffer);
+    }
+    if outbound.len() < SessionState::OUTBOUND_BYTES {
+        return session::refused(s, Refusal::ShortBuffer);
+    }
+    if queue.len() < SessionState::QUEUE_BYTES {
+        return session::refused(s, Refusal::ShortBuffer);
+    }
+    if 4 < mode {
+        return session::refused(s, Refusal::UnknownCode);
+    }
+    if !peer_session::sound(s) {
+        return session::refused(s, Refusal::BadRecord);
+    }
+    if SessionState::GENERATION_LIMIT <= s.clock.generation {
+        return session::refused(s, Refusal::GenerationsExhausted);
+    }
+    ready(s, list, delivery, outbound, queue, status, mode)
 }
