@@ -138,11 +138,11 @@ fn fail(s: SessionState, list: &mut [u64], n: usize, queue: &mut [u8], x: Refusa
     requires { ⌜ (ExactQueue (s .queue) (length (now queue))) × (4 * n + 4 ≤ length (now list)) ⌝ }
     ensures { λ r. ⌜ Fails x s (now (list .entry)) n (now (queue .entry)) r (now (list .exit)) (now (queue .exit)) ⌝ }
 {
-    let r = peer_session::broken(s, queue);
+    let emptied = peer_session::broken(s, queue);
     let number = answers::refusal_number(x);
     events::emit(list, n, 7, number, 0, 0);
     Ended {
-        session: r,
+        session: emptied,
         events: n + 1,
         stop: Stop::By(x),
     }
@@ -235,8 +235,9 @@ fn check(s: SessionState, number: u64, len: usize) -> Verdict
     if s.policy.body < len {
         return Verdict::Fail(Refusal::BodyTooLong);
     }
-    if s.remote < number {
-        if s.policy.gap < number - (s.remote + 1) {
+    let remote = s.remote;
+    if remote < number {
+        if s.policy.gap < number - (remote + 1) {
             return Verdict::Fail(Refusal::GapTooWide);
         }
         if SessionState::LAST_REMOTE < number {
@@ -374,7 +375,8 @@ fn enqueue(
     let q = s.queue;
     let w = s.waiting;
     let c = s.clock;
-    if queue::find(q, number) {
+    let held = queue::find(q, number);
+    if held {
         let n = events::request(c, list, 0);
         return carry(s, t, w, 0, status, list, n, delivery, 0, outbound, queue);
     }
