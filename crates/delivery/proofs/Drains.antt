@@ -5,7 +5,7 @@ use mathlib.Core.List.{List, _∷_}
 use mathlib.Core.Option.{some}
 use Prim.Native.Nat.{ℕ, suc, _+_, _-_, _*_, _≤_, _<_}
 use native.Mathlib.Omega.{arith}
-use lib.ListN.{length, take, drop, getD, set, length-drop, drop-of-length-le}
+use lib.ListN.{length, take, drop, length-drop, drop-of-length-le}
 use Rattle.rules.specs.declared.HostStatus.{HostStatus}
 use Rattle.rules.specs.declared.Refusal.{Refusal}
 use Rattle.rules.specs.Lists.{Bytes, kept, all, first, total, put, rising, itself}
@@ -20,15 +20,14 @@ use Rattle.events.specs.Written.{Books, books, Within, final, ends}
 use Rattle.events.proofs.Laws.{write-none, then-goes, then-stops}
 use Rattle.numbers.specs.declared.Numbers.{Numbers}
 use Rattle.numbers.specs.Seats.{inUse, ExactNumbers}
-use Rattle.queue.specs.declared.Queued.{Queued}
 use Rattle.queue.specs.declared.Queue.{Queue}
-use Rattle.queue.specs.View.{lenQ, frame, blankQ, usedQ, framesOf}
+use Rattle.queue.specs.View.{lenQ, usedQ, framesOf}
 use Rattle.queue.proofs.View.{frames-length}
 use Rattle.delivery.specs.declared.Turn.{Turn}
 use Rattle.delivery.specs.declared.Step.{Step}
 use Rattle.delivery.specs.declared.Drained.{Drained}
 use Rattle.delivery.specs.Turns.{during, Under, Ready, Delivered, left-by, acked-by, Draining, Drains}
-use Rattle.delivery.specs.Acts.{Available, Deliverable}
+use Rattle.delivery.specs.Acts.{Available, Deliverable, drainedBy}
 use Rattle.delivery.proofs.Queues.{recordAt, frameAt, with-last, turn-off, turn-none, turn-not, turn-goes, first-nothing, head-above, tail-above, kept-head, next-none, next-some, start-on, start-small, frames-step, body-size, size-step, number-last, put-more, exact-more, behind-more}
 
 -- What the loop keeps, at frame i, whose body starts at byte a: the drain from here on comes to what the whole drain comes to.
@@ -72,8 +71,12 @@ turns-none status t w x i q b a d e =
       left = λ s us u. ap (λ (k : ℕ). final us (drains k status (during s (drop i (framesOf x q)) (inUse w) t)) b) (sym n);
     }
 
-abbrev pub drained : Turn → Numbers → ℕ → Books → Stop → Drained
-drained t w i b z = record { turn = t; waiting = w; taken = i; events = b .n; at = b .at; stop = z }
+abbrev drained : Turn → Numbers → ℕ → Books → Stop → Drained
+drained t w i b z = drainedBy t w i (b .n) (b .at) z
+
+pub drains-as : {status : HostStatus} {t : Turn} {w : Numbers} {x : Queue} {i : ℕ} {q : Bytes} {b : Books} {r r′ : Drained} {l′ : List ℕ} {d′ : Bytes} → r ≡ r′
+    → Drains status t w x i q b r′ l′ d′ → Drains status t w x i q b r l′ d′
+drains-as {status} {t} {w} {x} {i} {q} {b} {r} {r′} {l′} {d′} e h = subst (λ (z : Drained). Drains status t w x i q b z l′ d′) (sym e) h
 
 module _ {status : HostStatus} {t₀ : Turn} {w₀ : Numbers} {x : Queue} {i₀ : ℕ} {q : Bytes} {b₀ : Books} {t : Turn} {w : Numbers} {i a : ℕ} {b : Books}
     (v : Turns status t₀ w₀ x i₀ q b₀ t w i a b) where

@@ -13,10 +13,13 @@ use Rattle.rules.specs.Progress.{Progress, stays, _then_, request}
 use Rattle.rules.specs.Buffers.{flat}
 use Rattle.rules.specs.Setup.{receive-proposal, reject-inbound}
 use Rattle.rules.specs.Receiving.{available, deliverable, hand-over}
+use Rattle.numbers.specs.declared.Numbers.{Numbers}
+use Rattle.events.specs.declared.Stop.{Stop}
 use Rattle.events.specs.Written.{Books, books, final, ends, ended}
 use Rattle.delivery.specs.declared.Turn.{Turn}
 use Rattle.delivery.specs.declared.Step.{Step}
 use Rattle.delivery.specs.declared.Proposed.{Proposed}
+use Rattle.delivery.specs.declared.Drained.{Drained}
 use Rattle.delivery.specs.Turns.{during, Under, Ready, frameOf}
 
 -- ---- what is written
@@ -79,3 +82,8 @@ Available status t r = Answers (available status) t r
 -- whatever the body is
 abbrev pub Deliverable : ℕ → ℕ → Turn → Bool → Type 0
 Deliverable n k t r = (b : Bytes) → Answers (deliverable (frameOf n k b)) t r
+
+-- ---- a drain that is done
+
+abbrev pub drainedBy : Turn → Numbers → ℕ → ℕ → ℕ → Stop → Drained
+drainedBy t w i n at z = record { turn = t; waiting = w; taken = i; events = n; at = at; stop = z }

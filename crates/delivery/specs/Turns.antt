@@ -45,6 +45,21 @@ during s fs ws t =
       fixed = s .fixed;
     }
 
+-- the turn that a call begins with
+abbrev pub begun : R.State → Turn
+begun s =
+    record {
+      mode = s .stage .mode;
+      failed = s .stage .failed;
+      remote = s .inbox .remote;
+      clock = s .clock;
+      disposition = s .stage .disposition;
+      next = s .outbox .next;
+      unacked = not (empty (s .outbox .unacked));
+      sent = false;
+      dropped = false;
+    }
+
 -- what of a turn does not change, and what its flags say of the state that it began at
 pub record Under (s : R.State) (t : Turn) : Type 0 where
   pub mode : t .mode ≡ s .stage .mode

@@ -7,7 +7,7 @@ ghost use Rattle.rules.specs.declared.ReceiveMode.the-variants.{Proposal, Rejec
 ghost use Rattle.events.specs.Written.{books};
 ghost use Rattle.queue.specs.View.{frame};
 ghost use Rattle.delivery.specs.Turns.{frameOf, Ready, Consumed, Delivered, Draining, Drains};
-ghost use Rattle.delivery.specs.Acts.{HandedOver, Proposes, Rejects, Did, rejected, taken, answered, ReadyIn, Available, Deliverable};
+ghost use Rattle.delivery.specs.Acts.{HandedOver, Proposes, Rejects, Did, rejected, taken, answered, ReadyIn, Available, Deliverable, drainedBy};
 use events::Stop;
 use numbers::Numbers;
 use queue::Queue;
@@ -391,23 +391,35 @@ fn part(store: &[u8], start: usize, len: usize) -> &[u8]
 
 // A queued message, whose body starts at index start of the store, is delivered.
 fn deliver_queued(
-    t: Turn,
+    s: Step,
     list: &mut [u64],
-    n: usize,
     delivery: &mut [u8],
-    at: usize,
     u: Queued,
     store: &[u8],
     start: usize,
 ) -> Step
-    requires { ⌜ (start + u .len ≤ length (now store)) × Ready t (u .len) (length (now list)) n (length (now delivery)) at ⌝ }
-    ensures { λ r. ⌜ Delivered (frame u (take (u .len) (drop start (now (store .entry))))) t (books (now (list .entry)) n (now (delivery .entry)) at) r (now (list .exit)) (now (delivery .exit)) ⌝ }
+    requires { ⌜ (start + u .len ≤ length (now store)) × Ready (s .turn) (u .len) (length (now list)) (s .events) (length (now delivery)) (s .at) ⌝ }
+    ensures { λ r. ⌜ Delivered (frame u (take (u .len) (drop start (now (store .entry))))) (s .turn) (books (now (list .entry)) (s .events) (now (delivery .entry)) (s .at)) r (now (list .exit)) (now (delivery .exit)) ⌝ }
 {
     let len = u.len as usize;
-    let number = u.number;
-    let kind = u.kind;
     let body = part(store, start, len);
-    deliver(t, list, n, delivery, at, number, kind, body)
+    let t = s.turn;
+    deliver(t, list, s.events, delivery, s.at, u.number, u.kind, body)
+}
+
+// The loop is left, at the frame that is not taken.
+fn leave(s: Step, waiting: Numbers, taken: usize, stop: Stop) -> Drained
+    ensures { λ r. ⌜ r ≡ drainedBy (s .turn) waiting taken (s .events) (s .at) stop ⌝ }
+{
+    let turn = s.turn;
+    Drained {
+        turn: turn,
+        waiting: waiting,
+        taken: taken,
+        events: s.events,
+        at: s.at,
+        stop: stop,
+    }
 }
 
 // From frame `from` of the queue on, for as long as the host is available and the next message is there and deliverable. Its ack has the highest
@@ -427,14 +439,18 @@ pub fn drain(
     requires { ⌜ Draining t w q from (now store) (books (now list) n (now delivery) at) ⌝ }
     ensures { λ r. ⌜ Drains status t w q from (now (store .entry)) (books (now (list .entry)) n (now (delivery .entry)) at) r (now (list .exit)) (now (delivery .exit)) ⌝ }
 {
-    let count = q.count;
-    let mut turn = t;
+    let mut s = Step {
+        turn: t,
+        events: n,
+        at: at,
+        stop: Stop::No,
+    };
     let mut acks = w;
     let mut i = from;
     let mut start = queue::start(q, from);
-    let mut m = n;
-    let mut to = at;
+    let count = q.count;
     'drain: while i < count {
+        let turn = s.turn;
         if !available(turn, status) {
             break 'drain;
         }
@@ -446,12 +462,8 @@ pub fn drain(
         if !deliverable(turn, number, u.kind) {
             break 'drain;
         }
-        let a = deliver_queued(turn, list, m, delivery, to, u, store, start);
-        let r = a.turn;
-        let stop = a.stop;
-        turn = r;
-        m = a.events;
-        to = a.at;
+        s = deliver_queued(s, list, delivery, u, store, start);
+        let stop = s.stop;
         match stop {
             Stop::No => {
                 let k = acks.count;
@@ -460,24 +472,8 @@ pub fn drain(
                 start += u.len as usize;
                 i += 1;
             }
-            Stop::By(x) => {
-                return Drained {
-                    turn: turn,
-                    waiting: acks,
-                    taken: i,
-                    events: m,
-                    at: to,
-                    stop: Stop::By(x),
-                };
-            }
+            Stop::By(x) => return leave(s, acks, i, Stop::By(x)),
         }
     }
-    Drained {
-        turn: turn,
-        waiting: acks,
-        taken: i,
-        events: m,
-        at: to,
-        stop: Stop::No,
-    }
+    leave(s, acks, i, Stop::No)
 }

@@ -4,3 +4,4 @@ pub mod View
 pub mod Sends
 pub mod Fresh
 pub mod Breaks
+pub mod Lasting

@@ -5,3 +5,4 @@ pub mod Entry
 pub mod Queries
 pub mod WithList
 pub mod Clocks
+pub mod Lasting

@@ -4,3 +4,4 @@ pub mod Messages
 pub mod Checks
 pub mod Begins
 pub mod Classes
+pub mod Lasting
