@@ -58,6 +58,9 @@ pub fn is_here(c: Call) -> bool {
         Call::Send(_) => true,
         Call::Ack(_) => true,
         Call::Keepalive => true,
+        Call::Accept { terms: _, len: _ } => true,
+        Call::Reject => true,
+        Call::PrepareChannel(_) => true,
         Call::Prepare => true,
         Call::Complete {
             commit: _,
@@ -73,6 +76,7 @@ pub fn is_here(c: Call) -> bool {
             number: _,
             accepted: _,
         } => true,
+        Call::Retire(_) => true,
         _ => false,
     }
 }
@@ -90,6 +94,11 @@ pub fn call(
         Call::Send(n) => sending::send_message(s, list, outbound, text::front(body, n)),
         Call::Ack(n) => acks::receive_ack(s, list, outbound, queue, n),
         Call::Keepalive => keepalive(s, list),
+        Call::Accept { terms, len } => {
+            setup::accept_session(s, outbound, terms, text::front(body, len))
+        }
+        Call::Reject => setup::reject_session(s, list, outbound),
+        Call::PrepareChannel(terms) => setup::prepare_channel(s, terms),
         Call::Prepare => prepare(s),
         Call::Complete { commit, persisted } => commits::complete_commit(
             s,
@@ -109,6 +118,7 @@ pub fn call(
             number,
             accepted,
         } => acks::report(s, list, what, number, accepted),
+        Call::Retire(retain) => setup::retire(s, outbound, queue, retain),
         _ => session::refused(s, Refusal::UnknownCode),
     }
 }
