@@ -55,29 +55,67 @@ fn keepalive(s: SessionState, list: &mut [u64]) -> Returned {
 // Whether the call is one of those that `call` makes.
 pub fn is_here(c: Call) -> bool {
     match c {
-        Call::Send(_) => true,
-        Call::Ack(_) => true,
-        Call::Keepalive => true,
-        Call::Accept { terms: _, len: _ } => true,
-        Call::Reject => true,
-        Call::PrepareChannel(_) => true,
-        Call::Prepare => true,
-        Call::Complete {
-            commit: _,
-            persisted: _,
-        } => true,
-        Call::Connectivity {
-            event: _,
-            time: _,
-            force: _,
-        } => true,
-        Call::Report {
-            what: _,
-            number: _,
-            accepted: _,
-        } => true,
-        Call::Retire(_) => true,
-        _ => false,
+        Call::Command {
+            restoring: _,
+            present: _,
+            id: _,
+            len: _,
+        } => false,
+        Call::Fetch(_) => false,
+        Call::Restore {
+            record: _,
+            handoff: _,
+        } => false,
+        _ => true,
+    }
+}
+
+// Calls on the setup.
+fn set_up(
+    c: Call,
+    s: SessionState,
+    body: &[u8],
+    list: &mut [u64],
+    outbound: &mut [u8],
+    queue: &mut [u8],
+) -> Returned {
+    match c {
+        Call::Accept { terms, len } => {
+            setup::accept_session(s, outbound, terms, text::front(body, len))
+        }
+        Call::Reject => setup::reject_session(s, list, outbound),
+        Call::PrepareChannel(terms) => setup::prepare_channel(s, terms),
+        Call::Retire(retain) => setup::retire(s, outbound, queue, retain),
+        _ => session::refused(s, Refusal::UnknownCode),
+    }
+}
+
+// What a peer sent, and a consumer that is ready for it.
+fn receive(
+    c: Call,
+    s: SessionState,
+    body: &[u8],
+    list: &mut [u64],
+    delivery: &mut [u8],
+    outbound: &mut [u8],
+    queue: &mut [u8],
+) -> Returned {
+    match c {
+        Call::Data {
+            status,
+            number,
+            kind,
+            len,
+        } => {
+            let b = text::front(body, len);
+            receiving::receive_data(s, list, delivery, outbound, queue, status, number, kind, b)
+        }
+        Call::Ack(n) => acks::receive_ack(s, list, outbound, queue, n),
+        Call::Keepalive => keepalive(s, list),
+        Call::Ready { status, mode } => {
+            receiving::consumer_ready(s, list, delivery, outbound, queue, status, mode)
+        }
+        _ => set_up(c, s, body, list, outbound, queue),
     }
 }
 
@@ -92,13 +130,6 @@ pub fn call(
 ) -> Returned {
     match c {
         Call::Send(n) => sending::send_message(s, list, outbound, text::front(body, n)),
-        Call::Ack(n) => acks::receive_ack(s, list, outbound, queue, n),
-        Call::Keepalive => keepalive(s, list),
-        Call::Accept { terms, len } => {
-            setup::accept_session(s, outbound, terms, text::front(body, len))
-        }
-        Call::Reject => setup::reject_session(s, list, outbound),
-        Call::PrepareChannel(terms) => setup::prepare_channel(s, terms),
         Call::Prepare => prepare(s),
         Call::Complete { commit, persisted } => commits::complete_commit(
             s,
@@ -118,7 +149,6 @@ pub fn call(
             number,
             accepted,
         } => acks::report(s, list, what, number, accepted),
-        Call::Retire(retain) => setup::retire(s, outbound, queue, retain),
-        _ => session::refused(s, Refusal::UnknownCode),
+        _ => receive(c, s, body, list, delivery, outbound, queue),
     }
 }
