@@ -55,12 +55,6 @@ fn keepalive(s: SessionState, list: &mut [u64]) -> Returned {
 // Whether the call is one of those that `call` makes.
 pub fn is_here(c: Call) -> bool {
     match c {
-        Call::Command {
-            restoring: _,
-            present: _,
-            id: _,
-            len: _,
-        } => false,
         Call::Fetch(_) => false,
         Call::Restore {
             record: _,
@@ -70,7 +64,7 @@ pub fn is_here(c: Call) -> bool {
     }
 }
 
-// Calls on the setup.
+// Calls on the setup and the handoff.
 fn set_up(
     c: Call,
     s: SessionState,
@@ -85,6 +79,15 @@ fn set_up(
         }
         Call::Reject => setup::reject_session(s, list, outbound),
         Call::PrepareChannel(terms) => setup::prepare_channel(s, terms),
+        Call::Command {
+            restoring,
+            present,
+            id,
+            len,
+        } => {
+            let b = text::front(body, len);
+            handoffs::channel_command(s, list, outbound, restoring, present, id, b)
+        }
         Call::Retire(retain) => setup::retire(s, outbound, queue, retain),
         _ => session::refused(s, Refusal::UnknownCode),
     }

@@ -1,0 +1,2 @@
+-- The definitions that the contracts of `handoffs` cite.
+pub mod Commands
