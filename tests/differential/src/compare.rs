@@ -9,13 +9,13 @@ const CALLS_PER_SCRIPT: u64 = 1_000;
 const SHRINKING_TIME: Duration = Duration::from_secs(60);
 
 /// Compares so many calls; true if all agree. Stops at the first disagreement.
-pub fn run(calls: u64, seed: u64, program: &Program) -> bool {
+pub fn run(calls: u64, seed: u64, without: &[&str], program: &Program) -> bool {
     let mut passed = 0;
     for at in 0.. {
         if passed >= calls {
             break;
         }
-        let script = generate::script(seed + at, CALLS_PER_SCRIPT.min(calls - passed) as usize);
+        let script = generate::script(seed + at, CALLS_PER_SCRIPT.min(calls - passed) as usize, without);
         let (output, ended_badly) = program.run(&script.text());
         match first_difference(&script, &output) {
             None if ended_badly.is_none() => passed += script.lines.len() as u64,

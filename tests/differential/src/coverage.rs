@@ -72,7 +72,7 @@ pub fn covering_script(scripts: u64, longest_session: usize) -> Vec<u8> {
     let mut seen = BTreeSet::new();
     let mut chosen = Vec::new();
     for seed in 0..scripts {
-        let lines = generate::script(seed, 1_000).lines;
+        let lines = generate::script(seed, 1_000, &[]).lines;
         for session in lines.chunk_by(|_, next| !next.starts_with(b"start ")) {
             let mut oracle = Oracle::default();
             let shown: BTreeSet<Kind> = session
@@ -108,7 +108,7 @@ pub fn run(calls: u64, seed: u64) -> bool {
         if done >= calls {
             break;
         }
-        let script = generate::script(seed + at, 1_000.min(calls - done) as usize);
+        let script = generate::script(seed + at, 1_000.min(calls - done) as usize, &[]);
         for ((line, answer), mode) in script.lines.iter().zip(&script.answers).zip(&script.modes) {
             table.count(line, answer, *mode);
         }

@@ -71,8 +71,8 @@ pub fn join(lines: &[Vec<u8>]) -> Vec<u8> {
     lines.iter().flat_map(|line| line.iter().copied().chain([b'\n'])).collect()
 }
 
-/// At least so many calls, up to the end of a session.
-pub fn script(seed: u64, calls: usize) -> Script {
+/// At least so many calls, up to the end of a session, with no line that begins with one of the words `without`.
+pub fn script(seed: u64, calls: usize, without: &[&str]) -> Script {
     let mut generator = Generator {
         random: Random::new(seed),
         oracle: Oracle::default(),
@@ -84,6 +84,9 @@ pub fn script(seed: u64, calls: usize) -> Script {
     let mut script = Script { lines: Vec::new(), answers: Vec::new(), modes: Vec::new(), most: [0; 6] };
     while script.lines.len() < calls || generator.left > 0 || !generator.planned.is_empty() {
         let line = generator.line().into_bytes();
+        if without.iter().any(|word| line.split(|b| *b == b' ').next() == Some(word.as_bytes())) {
+            continue;
+        }
         let met = generator.oracle.link.as_ref().map(|link| link.session.summary());
         script.modes.push(met.as_ref().map_or(0, |s| s.mode));
         if let Some(s) = met {

@@ -47,9 +47,9 @@ mod transaction_manager {
 const USAGE: &str = "usage: oracle < SCRIPT
        oracle --linkrun [MESSAGE_NUMBER] < SCRIPT
        traps [PROGRAM | --script]
-       gen SEED CALLS
+       gen [--without WORD,WORD..] SEED CALLS
        gen --covering SCRIPTS LONGEST_SESSION
-       run [--seed SEED] [--program PROGRAM | --coverage] CALLS";
+       run [--seed SEED] [--without WORD,WORD..] [--program PROGRAM | --coverage] CALLS";
 
 fn usage() -> ! {
     eprintln!("{USAGE}");
@@ -78,6 +78,11 @@ fn answer_linkrun(message_number: &str) -> std::io::Result<()> {
     }
 }
 
+fn write_script(seed: &str, calls: &str, without: &[&str]) -> std::io::Result<()> {
+    let script = generate::script(parse(seed), parse(calls) as usize, without);
+    std::io::stdout().write_all(&script.text())
+}
+
 fn read_traps() -> std::io::Result<String> {
     let path = std::env::var_os("TRAPS").map(Into::into);
     let path = path.or_else(|| program::find_upward("shared/design/TRAPS.md"));
@@ -92,12 +97,14 @@ fn check_traps(program: Option<&str>) -> std::io::Result<()> {
 fn compare_programs(options: &[&str]) -> std::io::Result<()> {
     let built = program::find_upward("bin/linkcalls");
     let (mut calls, mut seed, mut covers) = (None, 1, false);
+    let mut without = Vec::new();
     let mut program = std::env::var("LINKCALLS").ok().or_else(|| built.map(|path| path.display().to_string()));
     let mut options = options.iter();
     while let Some(option) = options.next() {
         match *option {
             "--coverage" => covers = true,
             "--seed" => seed = parse(options.next().unwrap_or_else(|| usage())),
+            "--without" => without = options.next().unwrap_or_else(|| usage()).split(',').collect(),
             "--program" => program = options.next().map(|path| path.to_string()),
             number => calls = Some(parse(number)),
         }
@@ -105,7 +112,7 @@ fn compare_programs(options: &[&str]) -> std::io::Result<()> {
     let calls = calls.unwrap_or_else(|| usage());
     let passed = match program {
         _ if covers => coverage::run(calls, seed),
-        Some(path) => compare::run(calls, seed, &program::Program::Other(path.into())),
+        Some(path) => compare::run(calls, seed, &without, &program::Program::Other(path.into())),
         None => {
             eprintln!("no target/bin/linkcalls: build it, or name another by --program or LINKCALLS");
             false
@@ -131,9 +138,9 @@ fn main() -> std::io::Result<()> {
             let script = coverage::covering_script(parse(scripts), parse(longest_session) as usize);
             std::io::stdout().write_all(&script)
         }
-        ["gen", seed, calls] => {
-            let script = generate::script(parse(seed), parse(calls) as usize);
-            std::io::stdout().write_all(&script.text())
+        ["gen", seed, calls] => write_script(seed, calls, &[]),
+        ["gen", "--without", words, seed, calls] => {
+            write_script(seed, calls, &words.split(',').collect::<Vec<_>>())
         }
         ["run", ref options @ ..] => compare_programs(options),
         _ => usage(),

@@ -1,0 +1,320 @@
+// The call script: reads the calls of document 01 from the lines of standard input, makes them on one session, and prints what each answers.
+ghost use Prim.Native.Nat.{_≤_};
+use peer_session::SessionState;
+use reading::Call;
+use reading::Line;
+use reading::Opening;
+use rules::Answer;
+
+mod calling; // the session's calls
+mod dumping; // its state, printed
+mod fields; // the fields of a line
+mod parts; // parts of lent slices
+mod patterns; // the bits of a clock
+mod printing; // what is printed of a call
+mod reading; // the call of a line
+mod records; // the record of a start or a restore
+
+// The session, whether there is one, the size of the line so far, its number, and how much of the output buffer is used.
+struct Script {
+    session: SessionState,
+    started: bool,
+    size: usize,
+    number: u64,
+    used: usize,
+}
+
+fn begin() -> Script
+    ensures { λ r. ⌜ r .used ≤ 65536 ⌝ }
+{
+    let none = SessionState::none();
+    Script {
+        session: none,
+        started: false,
+        size: 0,
+        number: 1,
+        used: 0,
+    }
+}
+
+// The script after a line, for which it has this session and has printed up to index used.
+fn next(t: Script, session: SessionState, used: usize) -> Script
+    requires { ⌜ used ≤ 65536 ⌝ }
+    ensures { λ r. ⌜ r .used ≤ 65536 ⌝ }
+{
+    Script {
+        session: session,
+        started: t.started,
+        size: 0,
+        number: std::num::wrapping_add_u64(t.number, 1),
+        used: used,
+    }
+}
+
+fn answer_wrong(out: &mut [u8; 65536], t: Script) -> Script
+    requires { ⌜ t .used ≤ 65536 ⌝ }
+    ensures { λ r. ⌜ r .used ≤ 65536 ⌝ }
+{
+    let n = printing::print_wrong(out, t.used, t.number);
+    next(t, t.session, n)
+}
+
+fn is_refused(a: Answer) -> bool {
+    if let Answer::Refused(_) = a {
+        return true;
+    }
+    false
+}
+
+// A refused start leaves the session that was there.
+fn answer_start(
+    o: Opening,
+    numbers: &[u64; 257],
+    lengths: &[u64; 257],
+    body: &[u8; 150000],
+    list: &[u64; 4096],
+    outbound: &mut [u8; 65536],
+    queue: &mut [u8; 32768],
+    out: &mut [u8; 65536],
+    t: Script,
+) -> Script
+    requires { ⌜ t .used ≤ 65536 ⌝ }
+    ensures { λ r. ⌜ r .used ≤ 65536 ⌝ }
+{
+    let r = calling::start(o, numbers, lengths, body, outbound, queue);
+    let a = r.answer;
+    let n = printing::print_call(out, t.used, b"start", a, 0, list, body, outbound);
+    if is_refused(a) {
+        return next(t, t.session, n);
+    }
+    let mut u = t;
+    u.started = true;
+    next(u, r.session, n)
+}
+
+fn answer_call(
+    c: Call,
+    word: &[u8],
+    body: &[u8; 150000],
+    list: &mut [u64; 4096],
+    delivery: &mut [u8; 49152],
+    outbound: &mut [u8; 65536],
+    queue: &mut [u8; 32768],
+    out: &mut [u8; 65536],
+    t: Script,
+) -> Script
+    requires { ⌜ t .used ≤ 65536 ⌝ }
+    ensures { λ r. ⌜ r .used ≤ 65536 ⌝ }
+{
+    if !calling::is_here(c) {
+        return answer_wrong(out, t);
+    }
+    let r = calling::call(c, t.session, body, list, delivery, outbound, queue);
+    let a = r.answer;
+    let n = printing::print_call(out, t.used, word, a, r.events, list, delivery, outbound);
+    next(t, r.session, n)
+}
+
+fn answer_state(
+    outbound: &[u8; 65536],
+    queue: &[u8; 32768],
+    out: &mut [u8; 65536],
+    t: Script,
+) -> Script
+    requires { ⌜ t .used ≤ 65536 ⌝ }
+    ensures { λ r. ⌜ r .used ≤ 65536 ⌝ }
+{
+    let n = dumping::print_state(out, t.used, t.session, outbound, queue);
+    next(t, t.session, n)
+}
+
+fn set_generation(t: Script, generation: u32) -> Script
+    requires { ⌜ t .used ≤ 65536 ⌝ }
+    ensures { λ r. ⌜ r .used ≤ 65536 ⌝ }
+{
+    let mut s = t.session;
+    s.clock.generation = generation;
+    next(t, s, t.used)
+}
+
+// The first field of a line.
+fn word_of(line: &[u8], size: usize) -> &[u8] {
+    let s = text::front(line, size);
+    let e = text::find(s, 0, 32);
+    text::front(s, e)
+}
+
+// Before a start nothing else is a call.
+fn answer_session(
+    l: Line,
+    word: &[u8],
+    body: &[u8; 150000],
+    list: &mut [u64; 4096],
+    delivery: &mut [u8; 49152],
+    outbound: &mut [u8; 65536],
+    queue: &mut [u8; 32768],
+    out: &mut [u8; 65536],
+    t: Script,
+) -> Script
+    requires { ⌜ t .used ≤ 65536 ⌝ }
+    ensures { λ r. ⌜ r .used ≤ 65536 ⌝ }
+{
+    if !t.started {
+        return answer_wrong(out, t);
+    }
+    match l {
+        Line::Call(c) => answer_call(c, word, body, list, delivery, outbound, queue, out, t),
+        Line::State => answer_state(outbound, queue, out, t),
+        Line::Generation(n) => set_generation(t, n),
+        _ => answer_wrong(out, t),
+    }
+}
+
+fn answer(
+    line: &[u8; 300000],
+    numbers: &mut [u64; 257],
+    lengths: &mut [u64; 257],
+    body: &mut [u8; 150000],
+    list: &mut [u64; 4096],
+    delivery: &mut [u8; 49152],
+    outbound: &mut [u8; 65536],
+    queue: &mut [u8; 32768],
+    out: &mut [u8; 65536],
+    t: Script,
+) -> Script
+    requires { ⌜ t .used ≤ 65536 ⌝ }
+    ensures { λ r. ⌜ r .used ≤ 65536 ⌝ }
+{
+    let l = reading::read_line(line, t.size, numbers, lengths, body);
+    if let Line::Start(o) = l {
+        return answer_start(o, numbers, lengths, body, list, outbound, queue, out, t);
+    }
+    let word = word_of(line, t.size);
+    answer_session(l, word, body, list, delivery, outbound, queue, out, t)
+}
+
+fn answer_chunk(
+    chunk: &[u8; 65536],
+    n: usize,
+    line: &mut [u8; 300000],
+    numbers: &mut [u64; 257],
+    lengths: &mut [u64; 257],
+    body: &mut [u8; 150000],
+    list: &mut [u64; 4096],
+    delivery: &mut [u8; 49152],
+    outbound: &mut [u8; 65536],
+    queue: &mut [u8; 32768],
+    out: &mut [u8; 65536],
+    t: Script,
+) -> Script
+    requires { ⌜ t .used ≤ 65536 ⌝ }
+    ensures { λ r. ⌜ r .used ≤ 65536 ⌝ }
+{
+    let some = text::front(chunk, n);
+    let mut r = t;
+    let mut at = 0;
+    while at < some.len() {
+        let q = text::gather_line(some, at, line, r.size);
+        r.size = q.size;
+        if q.whole {
+            r = answer(
+                line,
+                numbers,
+                lengths,
+                body,
+                list,
+                delivery,
+                outbound,
+                queue,
+                out,
+                r,
+            );
+        }
+        at = q.next;
+    }
+    r
+}
+
+// A last line that has no end counts.
+fn answer_last(
+    line: &[u8; 300000],
+    numbers: &mut [u64; 257],
+    lengths: &mut [u64; 257],
+    body: &mut [u8; 150000],
+    list: &mut [u64; 4096],
+    delivery: &mut [u8; 49152],
+    outbound: &mut [u8; 65536],
+    queue: &mut [u8; 32768],
+    out: &mut [u8; 65536],
+    t: Script,
+) -> usize
+    requires { ⌜ t .used ≤ 65536 ⌝ }
+    ensures { λ r. ⌜ r ≤ 65536 ⌝ }
+{
+    if t.size == 0 {
+        return t.used;
+    }
+    let r = answer(
+        line,
+        numbers,
+        lengths,
+        body,
+        list,
+        delivery,
+        outbound,
+        queue,
+        out,
+        t,
+    );
+    r.used
+}
+
+// Answers all of standard input.
+pub fn run() {
+    let mut chunk = io::large_buffer();
+    let mut line = [0u8; 300000];
+    let mut numbers = [0u64; 257];
+    let mut lengths = [0u64; 257];
+    let mut body = [0u8; 150000];
+    let mut list = [0u64; 4096];
+    let mut delivery = [0u8; 49152];
+    let mut outbound = [0u8; 65536];
+    let mut queue = [0u8; 32768];
+    let mut out = io::large_buffer();
+    let mut t = begin();
+    let mut turns = u64::MAX;
+    while turns > 0 {
+        let n = lines::read_some(&mut chunk);
+        if n == 0 {
+            break;
+        }
+        t = answer_chunk(
+            &chunk,
+            n,
+            &mut line,
+            &mut numbers,
+            &mut lengths,
+            &mut body,
+            &mut list,
+            &mut delivery,
+            &mut outbound,
+            &mut queue,
+            &mut out,
+            t,
+        );
+        turns -= 1;
+    }
+    let used = answer_last(
+        &line,
+        &mut numbers,
+        &mut lengths,
+        &mut body,
+        &mut list,
+        &mut delivery,
+        &mut outbound,
+        &mut queue,
+        &mut out,
+        t,
+    );
+    lines::flush(&out, used);
+}

@@ -1,0 +1,188 @@
+// What is printed of a call, and of a line that is none.
+ghost use Prim.Native.Nat.{_+_, _≤_};
+use crate::parts;
+use rules::Answer;
+use rules::PreparedCommit;
+
+// A space and a number.
+pub fn print_field(out: &mut [u8; 65536], used: usize, v: u64) -> usize
+    requires { ⌜ used ≤ 65536 ⌝ }
+    ensures { λ r. ⌜ r ≤ 65536 ⌝ }
+{
+    let n = lines::print_byte(out, used, 32);
+    lines::print_decimal(out, n, v)
+}
+
+pub fn print_flag(out: &mut [u8; 65536], used: usize, b: bool) -> usize
+    requires { ⌜ used ≤ 65536 ⌝ }
+    ensures { λ r. ⌜ r ≤ 65536 ⌝ }
+{
+    if b {
+        return print_field(out, used, 1);
+    }
+    print_field(out, used, 0)
+}
+
+// A space and a body.
+pub fn print_body(out: &mut [u8; 65536], used: usize, b: &[u8]) -> usize
+    requires { ⌜ used ≤ 65536 ⌝ }
+    ensures { λ r. ⌜ r ≤ 65536 ⌝ }
+{
+    let n = lines::print_byte(out, used, 32);
+    lines::print_hex(out, n, b)
+}
+
+pub fn print_wrong(out: &mut [u8; 65536], used: usize, number: u64) -> usize
+    requires { ⌜ used ≤ 65536 ⌝ }
+    ensures { λ r. ⌜ r ≤ 65536 ⌝ }
+{
+    let n = lines::print_byte(out, used, b'?');
+    let m = print_field(out, n, number);
+    lines::print_byte(out, m, 10)
+}
+
+fn print_count(out: &mut [u8; 65536], used: usize, number: u64, events: usize) -> usize
+    requires { ⌜ used ≤ 65536 ⌝ }
+    ensures { λ r. ⌜ r ≤ 65536 ⌝ }
+{
+    let n = print_field(out, used, number);
+    print_field(out, n, events as u64)
+}
+
+fn print_refusal(out: &mut [u8; 65536], used: usize, number: u64, events: usize) -> usize
+    requires { ⌜ used ≤ 65536 ⌝ }
+    ensures { λ r. ⌜ r ≤ 65536 ⌝ }
+{
+    let n = lines::print_bytes(out, used, b" !");
+    print_count(out, n, number, events)
+}
+
+fn print_commit(out: &mut [u8; 65536], used: usize, c: PreparedCommit) -> usize
+    requires { ⌜ used ≤ 65536 ⌝ }
+    ensures { λ r. ⌜ r ≤ 65536 ⌝ }
+{
+    let n = print_field(out, used, c.generation as u64);
+    let m = print_field(out, n, c.outbound);
+    print_field(out, m, c.remote)
+}
+
+// The part of the outbound store that a fetch names.
+fn print_held(
+    out: &mut [u8; 65536],
+    used: usize,
+    start: usize,
+    len: usize,
+    outbound: &[u8],
+) -> usize
+    requires { ⌜ used ≤ 65536 ⌝ }
+    ensures { λ r. ⌜ r ≤ 65536 ⌝ }
+{
+    let n = print_field(out, used, start as u64);
+    let m = print_field(out, n, len as u64);
+    print_body(out, m, parts::part(outbound, start as u64, len as u64))
+}
+
+fn print_answer(
+    out: &mut [u8; 65536],
+    used: usize,
+    a: Answer,
+    events: usize,
+    outbound: &[u8],
+) -> usize
+    requires { ⌜ used ≤ 65536 ⌝ }
+    ensures { λ r. ⌜ r ≤ 65536 ⌝ }
+{
+    match a {
+        Answer::Refused(x) => print_refusal(out, used, answers::refusal_number(x), events),
+        Answer::Prepared(c) => print_commit(out, used, c),
+        Answer::Held { start, len } => print_held(out, used, start, len, outbound),
+        Answer::NotHeld => lines::print_bytes(out, used, b" none"),
+        _ => print_count(out, used, answers::answer_value(a), events),
+    }
+}
+
+// The body that an event of this code points to.
+fn print_pointed(
+    out: &mut [u8; 65536],
+    used: usize,
+    code: u64,
+    start: u64,
+    len: u64,
+    delivery: &[u8],
+    outbound: &[u8],
+) -> usize
+    requires { ⌜ used ≤ 65536 ⌝ }
+    ensures { λ r. ⌜ r ≤ 65536 ⌝ }
+{
+    match code {
+        2 => print_body(out, used, parts::part(delivery, start, len)),
+        8 => print_body(out, used, parts::part(outbound, start, len)),
+        _ => used,
+    }
+}
+
+// The event whose words start at index at.
+fn print_event(
+    out: &mut [u8; 65536],
+    used: usize,
+    list: &[u64; 4096],
+    at: usize,
+    delivery: &[u8],
+    outbound: &[u8],
+) -> usize
+    requires { ⌜ (used ≤ 65536) × (at + 4 ≤ 4096) ⌝ }
+    ensures { λ r. ⌜ r ≤ 65536 ⌝ }
+{
+    let code = list[at];
+    let start = list[at + 2];
+    let len = list[at + 3];
+    let n = lines::print_decimal(out, used, code);
+    let m = print_field(out, n, list[at + 1]);
+    let k = print_field(out, m, start);
+    let j = print_field(out, k, len);
+    let i = print_pointed(out, j, code, start, len, delivery, outbound);
+    lines::print_byte(out, i, 10)
+}
+
+// No call lists more than 1,024 events, which is what the list holds.
+fn print_events(
+    out: &mut [u8; 65536],
+    used: usize,
+    list: &[u64; 4096],
+    events: usize,
+    delivery: &[u8],
+    outbound: &[u8],
+) -> usize
+    requires { ⌜ used ≤ 65536 ⌝ }
+    ensures { λ r. ⌜ r ≤ 65536 ⌝ }
+{
+    if 1024 < events {
+        return used;
+    }
+    let mut n = used;
+    let mut i = 0;
+    while i < events {
+        n = print_event(out, n, list, i * 4, delivery, outbound);
+        i += 1;
+    }
+    n
+}
+
+pub fn print_call(
+    out: &mut [u8; 65536],
+    used: usize,
+    word: &[u8],
+    a: Answer,
+    events: usize,
+    list: &[u64; 4096],
+    delivery: &[u8],
+    outbound: &[u8],
+) -> usize
+    requires { ⌜ used ≤ 65536 ⌝ }
+    ensures { λ r. ⌜ r ≤ 65536 ⌝ }
+{
+    let n = lines::print_bytes(out, used, word);
+    let m = print_answer(out, n, a, events, outbound);
+    let k = lines::print_byte(out, m, 10);
+    print_events(out, k, list, events, delivery, outbound)
+}
