@@ -116,7 +116,7 @@ fn receive(
         Call::Ack(n) => acks::receive_ack(s, list, outbound, queue, n),
         Call::Keepalive => keepalive(s, list),
         Call::Ready { status, mode } => {
-            receiving::consumer_ready(s, list, delivery, outbound, queue, status, mode)
+            consumers::consumer_ready(s, list, delivery, outbound, queue, status, mode)
         }
         _ => set_up(c, s, body, list, outbound, queue),
     }

@@ -1,15 +1,15 @@
 use mathlib.Core.Path.{sym, _∙_}
 use borrow.Author.Tests.{not-true, not-false}
-use Rattle.receiving.proofs.Calls.{list-short, delivery-short, outbound-short, queue-short, code-wrong, unsound}
+use Rattle.draining.proofs.Calls.{list-short, delivery-short, outbound-short, queue-short, code-wrong, unsound}
 use Rattle.rules.specs.Calls.{is-ready}
-use Rattle.receiving.proofs.Consumers.{ready-takes, ready-wrong, ready-known, exhausted}
+use Rattle.consumers.proofs.Consumers.{ready-takes, ready-wrong, ready-known, exhausted}
 use borrow.Author.Needs.{needs}
-use Rattle.receiving.proofs.consumer_ready.Statement.{statement}
-use Rattle.receiving.proofs.consumer_ready.Tie as tie
-use Rattle.receiving.proofs.consumer_ready.Reads as reads
-use Rattle.receiving.proofs.consumer_ready.Lts as lts
+use Rattle.consumers.proofs.consumer_ready.Statement.{statement}
+use Rattle.consumers.proofs.consumer_ready.Tie as tie
+use Rattle.consumers.proofs.consumer_ready.Reads as reads
+use Rattle.consumers.proofs.consumer_ready.Lts as lts
 use Rattle.peer_session.proofs.sound.Reads as sound-reads
-use Rattle.receiving.proofs.ready.Reads as ready-reads
+use Rattle.consumers.proofs.ready.Reads as ready-reads
 use Rattle.session.proofs.refused.Reads as refused-reads
 
 -- src/lib.rt:603:9

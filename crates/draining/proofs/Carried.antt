@@ -34,11 +34,11 @@ use Rattle.peer_session.specs.View.{view, stateOf, fixedOf, ExactRest, Exact}
 use Rattle.delivery.specs.declared.Turn.{Turn}
 use Rattle.delivery.specs.declared.Drained.{Drained}
 use Rattle.delivery.specs.Turns.{after-sending, during, Under, Draining, Drains}
-use Rattle.receiving.specs.declared.Ended.{Ended}
-use Rattle.receiving.specs.Turns.{Settling, advanced, with-queue, Finishing, Finishes}
-use Rattle.receiving.specs.Ends.{Stores, Abandoning, Abandons, Carrying, Carries}
-use Rattle.receiving.proofs.Settled.{advanced-view, advanced-rest, advanced-bytes}
-use Rattle.receiving.proofs.Failing.{failing-goes, leaves-final}
+use Rattle.draining.specs.declared.Ended.{Ended}
+use Rattle.draining.specs.Turns.{Settling, advanced, with-queue, Finishing, Finishes}
+use Rattle.draining.specs.Ends.{Stores, Abandoning, Abandons, Carrying, Carries}
+use Rattle.draining.proofs.Settled.{advanced-view, advanced-rest, advanced-bytes}
+use Rattle.draining.proofs.Failing.{failing-goes, leaves-final}
 
 -- ---- what a turn asks of the outbox
 

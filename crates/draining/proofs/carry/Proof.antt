@@ -1,12 +1,12 @@
-use Rattle.receiving.proofs.Carried.{draining, finishing, abandoning, carries-on, carries-not}
+use Rattle.draining.proofs.Carried.{draining, finishing, abandoning, carries-on, carries-not}
 use borrow.Author.Needs.{needs}
-use Rattle.receiving.proofs.carry.Statement.{statement}
-use Rattle.receiving.proofs.carry.Tie as tie
-use Rattle.receiving.proofs.carry.Reads as reads
-use Rattle.receiving.proofs.carry.Lts as lts
+use Rattle.draining.proofs.carry.Statement.{statement}
+use Rattle.draining.proofs.carry.Tie as tie
+use Rattle.draining.proofs.carry.Reads as reads
+use Rattle.draining.proofs.carry.Lts as lts
 use Rattle.delivery.proofs.drain.Reads as drain-reads
-use Rattle.receiving.proofs.abandon.Reads as abandon-reads
-use Rattle.receiving.proofs.finish.Reads as finish-reads
+use Rattle.draining.proofs.abandon.Reads as abandon-reads
+use Rattle.draining.proofs.finish.Reads as finish-reads
 
 -- src/lib.rt:182:9
 drain-requires : tie.Need-drain-requires

@@ -26,15 +26,15 @@ use Rattle.outbox.proofs.View.{exact-total}
 use Rattle.peer_session.specs.declared.SessionState.{SessionState}
 use Rattle.peer_session.specs.View.{held, stateOf, Exact}
 use Rattle.peer_session.specs.Sound.{soundOf}
-use Rattle.peer_session.proofs.View.{exact-held}
+use Rattle.peer_session.proofs.View.{Good, exact-held, sound-good}
 use Rattle.session.specs.declared.Returned.{Returned}
 use Rattle.session.specs.Promise.{lent, exit, promise, Called, Turned}
 use Rattle.session.proofs.Promises.{Follows}
 use Rattle.session.proofs.Lengths.{short-list, short-delivery, short-outbound, short-queue, long-enough}
 use Rattle.session.proofs.Entry.{Entered, entered, is-short, is-wrong, is-unsound, is-refused, meets}
-use Rattle.receiving.specs.Ends.{Stores}
-use Rattle.receiving.specs.Checks.{told}
-use Rattle.receiving.specs.Calls.{Arrived}
+use Rattle.draining.specs.Ends.{Stores}
+use Rattle.draining.specs.Arrived.{told}
+use Rattle.draining.specs.Arrived.{Arrived}
 
 -- a run at the front
 front-run : (w l : List ℕ) → placed l (4 * 0) w ≡ over w l
@@ -109,3 +109,11 @@ module _ (c : Call) (all : taken-by c ≡ takes true true true true) (s : Sessio
           comes {y} (stops v x es) a e h =
               ap (λ (z : Stop). exit (held r) (told a z) n (lent l′ d′ o′ q′)) (sym (ap (λ (z : Final). z .stop) (h (unackedOf (r .outbox) o′))))
               ∙ came x (Refused v) es e (ap (λ (z : Final). z .state) (h (unackedOf (r .outbox) o′))) (ap (λ (z : Final). z .books) (h (unackedOf (r .outbox) o′)))
+
+-- ---- past the tests at the entry
+
+pub arrived-good : (s : SessionState) (l : List ℕ) (d o q : Bytes) → Arrived s l d o q → Good s o q
+arrived-good s l d o q a = sound-good s o q (a .good) (a .full) (a .outbound) (a .queue)
+
+pub arrived-entered : (s : SessionState) (l : List ℕ) (d o q : Bytes) → Arrived s l d o q → Entered s o q
+arrived-entered s l d o q a = entered s o q (a .good) (a .full) (a .outbound) (a .queue)

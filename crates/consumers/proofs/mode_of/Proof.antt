@@ -1,9 +1,9 @@
-use Rattle.receiving.proofs.Consumers.{mode-raw, mode-proposal, mode-channel, mode-rejection, mode-retiring}
+use Rattle.consumers.proofs.Consumers.{mode-raw, mode-proposal, mode-channel, mode-rejection, mode-retiring}
 use borrow.Author.Needs.{needs}
-use Rattle.receiving.proofs.mode_of.Statement.{statement}
-use Rattle.receiving.proofs.mode_of.Tie as tie
-use Rattle.receiving.proofs.mode_of.Reads as reads
-use Rattle.receiving.proofs.mode_of.Lts as lts
+use Rattle.consumers.proofs.mode_of.Statement.{statement}
+use Rattle.consumers.proofs.mode_of.Tie as tie
+use Rattle.consumers.proofs.mode_of.Reads as reads
+use Rattle.consumers.proofs.mode_of.Lts as lts
 
 -- src/lib.rt:534:9
 returns : tie.Need-returns

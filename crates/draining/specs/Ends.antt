@@ -25,8 +25,8 @@ use Rattle.peer_session.specs.declared.SessionState.{SessionState}
 use Rattle.peer_session.specs.View.{stateOf, fixedOf, Exact}
 use Rattle.delivery.specs.declared.Turn.{Turn}
 use Rattle.delivery.specs.Turns.{during, Under}
-use Rattle.receiving.specs.declared.Ended.{Ended}
-use Rattle.receiving.specs.Turns.{Settling}
+use Rattle.draining.specs.declared.Ended.{Ended}
+use Rattle.draining.specs.Turns.{Settling}
 
 -- the session that a call ends with, and every byte of the two stores: bodies reached in the queue store up to index reach
 pub record Stores (s : SessionState) (reach : ℕ) (o q : Bytes) (r : SessionState) (o′ q′ : Bytes) : Type 0 where

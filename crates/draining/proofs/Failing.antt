@@ -35,10 +35,10 @@ use Rattle.peer_session.specs.View.{view, stateOf, ExactRest, Exact}
 use Rattle.peer_session.specs.Breaks.{Broken}
 use Rattle.delivery.specs.declared.Turn.{Turn}
 use Rattle.delivery.specs.Turns.{during}
-use Rattle.receiving.specs.declared.Ended.{Ended}
-use Rattle.receiving.specs.Turns.{advanced, Advances}
-use Rattle.receiving.specs.Ends.{Stores, Fails, Abandoning, Abandons}
-use Rattle.receiving.proofs.Settled.{advanced-view, advanced-rest, advanced-bytes}
+use Rattle.draining.specs.declared.Ended.{Ended}
+use Rattle.draining.specs.Turns.{advanced, Advances}
+use Rattle.draining.specs.Ends.{Stores, Fails, Abandoning, Abandons}
+use Rattle.draining.proofs.Settled.{advanced-view, advanced-rest, advanced-bytes}
 
 -- ---- on what is under way
 
@@ -174,3 +174,8 @@ abandons {x} {t} {w} {s} {l} {n} {o} {q} {r₁} {r} {l′} {o′} {q′} pre a h
             queue = f .queue ∙ ap (λ (z : Queue). repacked (endQ z) (packed frame-body (framesOf (r .session .queue) q′)) q) (advances-queue a);
           };
     }
+
+-- ---- the books of a call that has listed nothing yet
+
+pub fresh-books : (l : List ℕ) (d : Bytes) → Within (books l 0 d 0)
+fresh-books l d = record { listed = omega arith; filled = omega arith }

@@ -4,10 +4,10 @@ use mathlib.Core.Path.{sym, subst}
 use Prim.Native.Nat.{ℕ}
 use Rattle.outbox.specs.Steps.{Room}
 use borrow.Author.Needs.{needs}
-use Rattle.receiving.proofs.send_reject.Statement.{statement}
-use Rattle.receiving.proofs.send_reject.Tie as tie
-use Rattle.receiving.proofs.send_reject.Reads as reads
-use Rattle.receiving.proofs.send_reject.Lts as lts
+use Rattle.draining.proofs.send_reject.Statement.{statement}
+use Rattle.draining.proofs.send_reject.Tie as tie
+use Rattle.draining.proofs.send_reject.Reads as reads
+use Rattle.draining.proofs.send_reject.Lts as lts
 use Rattle.outbox.proofs.append.Reads as append-reads
 
 -- src/lib.rt:53:36

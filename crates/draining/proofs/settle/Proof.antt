@@ -1,12 +1,12 @@
 use native.Mathlib.Omega.{arith}
-use Rattle.receiving.proofs.Settled.{settles-both, settles-sent, settles-dropped, settles-none, reject-room}
+use Rattle.draining.proofs.Settled.{settles-both, settles-sent, settles-dropped, settles-none, reject-room}
 use borrow.Author.Needs.{needs}
-use Rattle.receiving.proofs.settle.Statement.{statement}
-use Rattle.receiving.proofs.settle.Tie as tie
-use Rattle.receiving.proofs.settle.Reads as reads
-use Rattle.receiving.proofs.settle.Lts as lts
+use Rattle.draining.proofs.settle.Statement.{statement}
+use Rattle.draining.proofs.settle.Tie as tie
+use Rattle.draining.proofs.settle.Reads as reads
+use Rattle.draining.proofs.settle.Lts as lts
 use Rattle.outbox.proofs.discard.Reads as discard-reads
-use Rattle.receiving.proofs.send_reject.Reads as send-reject-reads
+use Rattle.draining.proofs.send_reject.Reads as send-reject-reads
 
 -- src/lib.rt:64:22
 add-r : tie.Need-add-r

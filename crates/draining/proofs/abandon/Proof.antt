@@ -1,11 +1,11 @@
-use Rattle.receiving.proofs.Failing.{abandons, advances-queued}
+use Rattle.draining.proofs.Failing.{abandons, advances-queued}
 use borrow.Author.Needs.{needs}
-use Rattle.receiving.proofs.abandon.Statement.{statement}
-use Rattle.receiving.proofs.abandon.Tie as tie
-use Rattle.receiving.proofs.abandon.Reads as reads
-use Rattle.receiving.proofs.abandon.Lts as lts
-use Rattle.receiving.proofs.advance.Reads as advance-reads
-use Rattle.receiving.proofs.fail.Reads as fail-reads
+use Rattle.draining.proofs.abandon.Statement.{statement}
+use Rattle.draining.proofs.abandon.Tie as tie
+use Rattle.draining.proofs.abandon.Reads as reads
+use Rattle.draining.proofs.abandon.Lts as lts
+use Rattle.draining.proofs.advance.Reads as advance-reads
+use Rattle.draining.proofs.fail.Reads as fail-reads
 
 -- src/lib.rt:145:9
 advance-requires : tie.Need-advance-requires

@@ -1,13 +1,13 @@
-use Rattle.receiving.proofs.Consumers.{ready-carrying, ready-done}
+use Rattle.consumers.proofs.Consumers.{ready-carrying, ready-done}
 use borrow.Author.Needs.{needs}
-use Rattle.receiving.proofs.ready.Statement.{statement}
-use Rattle.receiving.proofs.ready.Tie as tie
-use Rattle.receiving.proofs.ready.Reads as reads
-use Rattle.receiving.proofs.ready.Lts as lts
-use Rattle.receiving.proofs.carry.Reads as carry-reads
-use Rattle.receiving.proofs.mode_of.Reads as mode-of-reads
-use Rattle.receiving.proofs.take_mode.Reads as take-mode-reads
-use Rattle.receiving.proofs.turn_of.Reads as turn-of-reads
+use Rattle.consumers.proofs.ready.Statement.{statement}
+use Rattle.consumers.proofs.ready.Tie as tie
+use Rattle.consumers.proofs.ready.Reads as reads
+use Rattle.consumers.proofs.ready.Lts as lts
+use Rattle.draining.proofs.carry.Reads as carry-reads
+use Rattle.consumers.proofs.mode_of.Reads as mode-of-reads
+use Rattle.consumers.proofs.take_mode.Reads as take-mode-reads
+use Rattle.draining.proofs.turn_of.Reads as turn-of-reads
 
 -- src/lib.rt:577:9
 mode-of-requires : tie.Need-mode-of-requires

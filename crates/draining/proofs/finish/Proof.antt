@@ -1,11 +1,11 @@
-use Rattle.receiving.proofs.Settled.{finished}
+use Rattle.draining.proofs.Settled.{finished}
 use borrow.Author.Needs.{needs}
-use Rattle.receiving.proofs.finish.Statement.{statement}
-use Rattle.receiving.proofs.finish.Tie as tie
-use Rattle.receiving.proofs.finish.Reads as reads
-use Rattle.receiving.proofs.finish.Lts as lts
+use Rattle.draining.proofs.finish.Statement.{statement}
+use Rattle.draining.proofs.finish.Tie as tie
+use Rattle.draining.proofs.finish.Reads as reads
+use Rattle.draining.proofs.finish.Lts as lts
 use Rattle.queue.proofs.drop_front.Reads as drop-front-reads
-use Rattle.receiving.proofs.advance.Reads as advance-reads
+use Rattle.draining.proofs.advance.Reads as advance-reads
 
 -- src/lib.rt:108:9
 drop-front-requires : tie.Need-drop-front-requires

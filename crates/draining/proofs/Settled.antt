@@ -31,7 +31,7 @@ use Rattle.peer_session.specs.View.{view, stateOf, inboxOf, stageOf, fixedOf, r
 use Rattle.peer_session.proofs.Held.{outbox-cong, state-cong}
 use Rattle.delivery.specs.declared.Turn.{Turn}
 use Rattle.delivery.specs.Turns.{acted, after-sending, during, Under}
-use Rattle.receiving.specs.Turns.{turnOf, Settling, Settles, advanced, Advances, with-queue, Finishes}
+use Rattle.draining.specs.Turns.{turnOf, Settling, Settles, advanced, Advances, with-queue, Finishes}
 
 -- ---- the outbox
 

@@ -1,9 +1,9 @@
-use Rattle.receiving.proofs.Failing.{fails}
+use Rattle.draining.proofs.Failing.{fails}
 use borrow.Author.Needs.{needs}
-use Rattle.receiving.proofs.fail.Statement.{statement}
-use Rattle.receiving.proofs.fail.Tie as tie
-use Rattle.receiving.proofs.fail.Reads as reads
-use Rattle.receiving.proofs.fail.Lts as lts
+use Rattle.draining.proofs.fail.Statement.{statement}
+use Rattle.draining.proofs.fail.Tie as tie
+use Rattle.draining.proofs.fail.Reads as reads
+use Rattle.draining.proofs.fail.Lts as lts
 use Rattle.answers.proofs.refusal_number.Reads as refusal-number-reads
 use Rattle.events.proofs.emit.Reads as emit-reads
 use Rattle.peer_session.proofs.broken.Reads as broken-reads

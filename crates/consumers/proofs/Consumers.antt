@@ -35,15 +35,17 @@ use Rattle.session.specs.declared.Returned.{Returned}
 use Rattle.session.specs.Promise.{lent, Called, Turned}
 use Rattle.session.proofs.Entry.{entered}
 use Rattle.delivery.specs.declared.Turn.{Turn}
-use Rattle.receiving.specs.declared.Ended.{Ended}
-use Rattle.receiving.specs.Turns.{turnOf}
-use Rattle.receiving.specs.Ends.{Stores, Carrying, Carries}
-use Rattle.receiving.specs.Calls.{Arrived, with-mode}
-use Rattle.receiving.proofs.Settled.{begins}
-use Rattle.receiving.proofs.Failing.{forgiven-final}
-use Rattle.receiving.proofs.Again.{fresh-books}
-use Rattle.receiving.proofs.Calls as Calls
-use Rattle.receiving.proofs.Data.{arrived-good, arrived-entered}
+use Rattle.draining.specs.declared.Ended.{Ended}
+use Rattle.draining.specs.Turns.{turnOf}
+use Rattle.draining.specs.Ends.{Stores, Carrying, Carries}
+use Rattle.draining.specs.Arrived.{Arrived}
+use Rattle.consumers.specs.Modes.{with-mode}
+use Rattle.draining.proofs.Settled.{begins}
+use Rattle.draining.proofs.Failing.{forgiven-final}
+use Rattle.draining.proofs.Failing.{fresh-books}
+use Rattle.draining.proofs.Calls as Calls
+use Rattle.draining.proofs.Calls.{arrived-good}
+use Rattle.draining.proofs.Calls.{arrived-entered}
 
 -- ---- the call takes all four buffers
 
