@@ -1,0 +1,4 @@
+-- The laws of a restore.
+pub mod Records
+pub mod Handoffs
+pub mod Restores
