@@ -2,3 +2,4 @@
 pub mod Records
 pub mod Handoffs
 pub mod Restores
+pub mod Lasting
