@@ -86,14 +86,6 @@ fn keepalive(s: SessionState, list: &mut [u64]) -> Returned {
     }
 }
 
-// Whether the call is one of those that `call` makes.
-pub fn is_here(c: Call) -> bool {
-    match c {
-        Call::Fetch(_) => false,
-        _ => true,
-    }
-}
-
 // Calls on the setup and the handoff.
 fn set_up(
     c: Call,

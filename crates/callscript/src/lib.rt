@@ -92,6 +92,17 @@ fn answer_start(
     next(u, r.session, n)
 }
 
+fn answer_fetch(number: u64, outbound: &[u8; 65536], out: &mut [u8; 65536], t: Script) -> Script
+    requires { ⌜ t .used ≤ 65536 ⌝ }
+    ensures { λ r. ⌜ r .used ≤ 65536 ⌝ }
+{
+    let s = t.session;
+    let a = fetches::find(s, outbound, number);
+    let body = fetches::fetch(s, outbound, number);
+    let n = printing::print_fetch(out, t.used, a, body);
+    next(t, s, n)
+}
+
 fn answer_call(
     c: Call,
     word: &[u8],
@@ -108,8 +119,8 @@ fn answer_call(
     requires { ⌜ t .used ≤ 65536 ⌝ }
     ensures { λ r. ⌜ r .used ≤ 65536 ⌝ }
 {
-    if !calling::is_here(c) {
-        return answer_wrong(out, t);
+    if let Call::Fetch(number) = c {
+        return answer_fetch(number, outbound, out, t);
     }
     let s = t.session;
     let r = calling::call(
