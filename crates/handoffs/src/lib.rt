@@ -72,7 +72,7 @@ fn carried(o: Outbox, outbound: &[u8], number: u64, body: &[u8]) -> bool
 {
     let p = outbox::locate(o, number);
     match p {
-        Place::At { start, len } => text::same_bytes(stores::part(outbound, start, len), body),
+        Place::At { start, len } => stores::same_bytes(stores::part(outbound, start, len), body),
         Place::Nowhere => false,
     }
 }
@@ -161,7 +161,7 @@ fn pending(
     }
     let bytes = s.handoff.body;
     let len = s.handoff.len;
-    if !text::same_bytes(&bytes[..len], body) {
+    if !stores::same_bytes(&bytes[..len], body) {
         return session::refused(s, Refusal::CommandDiffers);
     }
     validate(s, list, outbound)

@@ -79,7 +79,7 @@ fn same_handoff(h: TerminalHandoff, given: Handoff, body: &[u8]) -> bool
     }
     let bytes = h.body;
     let len = h.len;
-    if !text::same_bytes(&bytes[..len], body) {
+    if !stores::same_bytes(&bytes[..len], body) {
         return false;
     }
     if h.sent != given.sent {

@@ -16,7 +16,7 @@ use Rattle.stores.proofs.Runs.{Run, run-more}
 use Rattle.text.specs.declared.Bytes.the-variants.{Count, Wrong}
 use Rattle.text.specs.Hex.{pairs, isDash, isPairs, hexOf, fitting, Decoded}
 use Rattle.text.specs.Numbers.{digitOf, isDigit}
-use Rattle.text.proofs.Fields.{drop-here}
+use Rattle.stores.proofs.Matches.{drop-here}
 
 -- ---- all are digits
 

@@ -4,7 +4,7 @@ ghost use mathlib.Core.Bool.{true};
 ghost use mathlib.Core.List.{[], _∷_};
 ghost use Prim.Native.Nat.{_+_, _-_, _*_, _≤_, _<_};
 ghost use lib.ListN.{length, take, drop};
-ghost use Rattle.rules.specs.Lists.{all, same};
+ghost use Rattle.rules.specs.Lists.{all};
 ghost use Rattle.stores.specs.Placed.{placed};
 ghost use Rattle.text.specs.Fields.{Found, hasWord, Grown, Gathered};
 ghost use Rattle.text.specs.Filled.{filledOf, Filling};
@@ -213,28 +213,12 @@ pub fn front(s: &[u8], n: usize) -> &[u8]
     s
 }
 
-pub fn same_bytes(a: &[u8], b: &[u8]) -> bool
-    ensures { λ r. ⌜ r ≡ same (now (a .entry)) (now (b .entry)) ⌝ }
-{
-    if a.len() != b.len() {
-        return false;
-    }
-    let mut i = 0;
-    while i < a.len() {
-        if a[i] != b[i] {
-            return false;
-        }
-        i += 1;
-    }
-    true
-}
-
 // Whether the first field is the word w, which then ends at index w.len().
 pub fn has_word(s: &[u8], w: &[u8]) -> bool
     ensures { λ r. ⌜ r ≡ hasWord (now (s .entry)) (now (w .entry)) ⌝ }
 {
     let e = find(s, 0, 32);
-    same_bytes(part(s, 0, e), w)
+    stores::same_bytes(part(s, 0, e), w)
 }
 
 fn with_end(n: Number, end: usize) -> Taken

@@ -10,7 +10,7 @@ use Rattle.handoffs.proofs.carried.Reads as reads
 use Rattle.handoffs.proofs.carried.Lts as lts
 use Rattle.stores.proofs.part.Reads as part-reads
 use Rattle.outbox.proofs.locate.Reads as locate-reads
-use Rattle.text.proofs.same_bytes.Reads as same-bytes-reads
+use Rattle.stores.proofs.same_bytes.Reads as same-bytes-reads
 
 -- src/lib.rt:81:9
 locate-requires : tie.Need-locate-requires

@@ -9,7 +9,7 @@ use Rattle.handoffs.proofs.pending.Reads as reads
 use Rattle.handoffs.proofs.pending.Lts as lts
 use Rattle.handoffs.proofs.validate.Reads as validate-reads
 use Rattle.session.proofs.refused.Reads as refused-reads
-use Rattle.text.proofs.same_bytes.Reads as same-bytes-reads
+use Rattle.stores.proofs.same_bytes.Reads as same-bytes-reads
 
 -- src/lib.rt:159:9
 refused-requires : tie.Need-refused-requires

@@ -9,7 +9,7 @@ use Rattle.restores.proofs.same_handoff.Statement.{statement}
 use Rattle.restores.proofs.same_handoff.Tie as tie
 use Rattle.restores.proofs.same_handoff.Reads as reads
 use Rattle.restores.proofs.same_handoff.Lts as lts
-use Rattle.text.proofs.same_bytes.Reads as same-bytes-reads
+use Rattle.stores.proofs.same_bytes.Reads as same-bytes-reads
 
 -- src/lib.rt:75:9
 returns : tie.Need-returns

@@ -6,7 +6,7 @@ use Rattle.text.proofs.has_word.Reads as reads
 use Rattle.text.proofs.has_word.Lts as lts
 use Rattle.text.proofs.find.Reads as find-reads
 use Rattle.text.proofs.part.Reads as part-reads
-use Rattle.text.proofs.same_bytes.Reads as same-bytes-reads
+use Rattle.stores.proofs.same_bytes.Reads as same-bytes-reads
 
 -- src/lib.rt:219:9
 find-requires : tie.Need-find-requires

@@ -1,11 +1,11 @@
 use Prim.Native.Nat.{_-_}
 use lib.ListN.{length}
-use Rattle.text.proofs.Fields.{same-other, Matching, matching-none, matching-more, matching-stop, matching-all}
+use Rattle.stores.proofs.Matches.{same-other, Matching, matching-none, matching-more, matching-stop, matching-all}
 use borrow.Author.Needs.{needs}
-use Rattle.text.proofs.same_bytes.Statement.{statement}
-use Rattle.text.proofs.same_bytes.Tie as tie
-use Rattle.text.proofs.same_bytes.Reads as reads
-use Rattle.text.proofs.same_bytes.Lts as lts
+use Rattle.stores.proofs.same_bytes.Statement.{statement}
+use Rattle.stores.proofs.same_bytes.Tie as tie
+use Rattle.stores.proofs.same_bytes.Reads as reads
+use Rattle.stores.proofs.same_bytes.Lts as lts
 
 abbrev Inv-loop : tie.InvT-loop
 Inv-loop a b i₀ i = Matching a b i
