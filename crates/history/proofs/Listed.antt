@@ -9,7 +9,6 @@ use lib.ListN.{length, drop}
 use Rattle.rules.specs.declared.Setup.{Setup}
 use Rattle.rules.specs.declared.Setup.the-variants.{None, Waiting, Started, Retired}
 use Rattle.rules.specs.declared.Terms.{Terms}
-use Rattle.rules.specs.declared.Refusal.the-variants.{ShortBuffer}
 use Rattle.rules.specs.declared.Answer.the-variants.{Done}
 use Rattle.rules.specs.Lists.{Bytes, if_then_else_}
 use Rattle.rules.specs.State.{Unacked, State}
@@ -21,12 +20,13 @@ use Rattle.rules.specs.Setup.{is-none, waiting-with, not-first, accept, prepare
 use Rattle.rules.specs.Commits.{prepare-commit}
 use Rattle.rules.specs.Replay.{fetch}
 use Rattle.rules.specs.Calls.{Call, sends, gets-data, gets-ack, gets-keepalive, is-ready, accepts, rejects, prepares-channel, commands, prepares, completes, connects, reports, fetches, retires, restores, step}
-use Rattle.rules.specs.Buffers.{taken-by, short, run, flat, over, where-taken, list-after, delivery-after, outbound-after, queue-after, lent-after}
+use Rattle.rules.specs.Buffers.{taken-by, flat, over, where-taken, list-after}
 use Rattle.rules.proofs.Lists.{if-rule}
-use Rattle.history.specs.Histories.{Session, Buffers, lent, outcome-of, shown}
-use Rattle.history.specs.Compiled.{read-words}
+use Rattle.history.specs.Shown.{read-words}
+use Rattle.history.specs.Contracts.{Buffers}
 use Rattle.history.proofs.Calls.{refuses-rule}
 use Rattle.history.proofs.Others.{retire-silent, restore-silent}
+use Rattle.history.proofs.Viewed.{Viewed, Gate, passes, is-short, is-unknown, outcome-of, left-of, lent-to, shown}
 
 pub read-flat : (ws : List Words) (rest : List ℕ) → read-words (length ws) (flat ws ++ rest) ≡ ws
 unfolding read-words flat
@@ -89,23 +89,16 @@ none-yet us ws = none-read us [] ws refl
 
 -- ---- the list after a call, read as far as its count
 
-pub list-read : (l : Buffers) (c : Call) (t : Session) → read-words (length (outcome-of l c t .events)) (lent-after (lent l t) c (t .state) .list) ≡ shown l c t .events
-unfolding shown run lent-after list-after
-list-read l c t = go (short (taken-by c) (lent l t))
-  where
-    s : State
-    s = t .state
+list-after-read : (c : Call) (s : State) (l : List ℕ) (b : Bool) → taken-by c .list ≡ b
+    → read-words (length (step c s .events)) (where-taken b (list-after (step c s) l) l) ≡ listed (step c s .state .outbox .unacked) 0 (step c s .events)
+unfolding list-after
+list-after-read c s l true e =
+    let us : List Unacked = step c s .state .outbox .unacked in
+    let es : List Event = step c s .events in
+    ap (λ n. read-words n (over (flat (listed us 0 es)) l)) (sym (length-listed us 0 es)) ∙ read-flat (listed us 0 es) (drop (length (flat (listed us 0 es))) l)
+list-after-read c s l false e = none-read (step c s .state .outbox .unacked) (step c s .events) l (unlisted c s e)
 
-    us : List Unacked
-    us = step c s .state .outbox .unacked
-
-    es : List Event
-    es = step c s .events
-
-    buf : (b : Bool) → taken-by c .list ≡ b → read-words (length es) (where-taken b (over (flat (listed us 0 es)) (l .list)) (l .list)) ≡ listed us 0 es
-    buf true e = ap (λ n. read-words n (over (flat (listed us 0 es)) (l .list))) (sym (length-listed us 0 es)) ∙ read-flat (listed us 0 es) (drop (length (flat (listed us 0 es))) (l .list))
-    buf false e = none-read us es (l .list) (unlisted c s e)
-
-    go : (b : Bool) → read-words (length ((s refuses ShortBuffer when b else step c s) .events)) ((if b then lent l t else record { list = where-taken (taken-by c .list) (over (flat (listed us 0 es)) (l .list)) (l .list); delivery = where-taken (taken-by c .delivery) (delivery-after (step c s) (l .delivery)) (l .delivery); outbound = where-taken (taken-by c .outbound) (outbound-after c s (t .outbound)) (t .outbound); queue = where-taken (taken-by c .queue) (queue-after c s (t .queue)) (t .queue) }) .list) ≡ listed ((s refuses ShortBuffer when b else step c s) .state .outbox .unacked) 0 ((s refuses ShortBuffer when b else step c s) .events)
-    go true = none-yet (s .outbox .unacked) (l .list)
-    go false = buf (taken-by c .list) refl
+pub list-read : (v : Gate) (l : Buffers) (c : Call) (t : Viewed) → read-words (length (outcome-of v c (t .state) .events)) (left-of v (lent-to l t) c (t .state) .list) ≡ shown v l c t .events
+list-read passes l c t = list-after-read c (t .state) (l .list) (taken-by c .list) refl
+list-read is-short l c t = none-yet (t .state .outbox .unacked) (l .list)
+list-read is-unknown l c t = none-yet (t .state .outbox .unacked) (l .list)

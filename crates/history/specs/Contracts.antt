@@ -1,0 +1,151 @@
+-- One exported call as a host makes it: what the host holds and lends, what it finds afterwards, and that the two are as the contract of the
+-- function says, the one that its `ensures` cites (docs/PROOFS.md, "The calls"). Assumes nothing.
+use Prim.Native.Nat.{ℕ, _≤_}
+use mathlib.Core.Path.{_≡_}
+use mathlib.Core.List.{List, []}
+use mathlib.Core.Option.{Option}
+use lib.ListN.{length}
+use Rattle.rules.specs.declared.Policy.{Policy}
+use Rattle.rules.specs.declared.Answer.{Answer}
+use Rattle.rules.specs.declared.Answer.the-variants.{Done}
+use Rattle.rules.specs.declared.Refusal.the-variants.{ShortBuffer}
+use Rattle.rules.specs.Lists.{Bytes, if_then_else_}
+use Rattle.rules.specs.Limits.{queue-bytes}
+use Rattle.rules.specs.State.{Handoff}
+use Rattle.rules.specs.Start.{Reliable}
+use Rattle.rules.specs.Calls.{Call, sends, gets-data, gets-ack, gets-keepalive, is-ready, accepts, rejects, prepares-channel, commands, prepares, completes, connects, reports, fetches, retires, restores}
+use Rattle.peer_session.specs.declared.SessionState.{SessionState}
+use Rattle.peer_session.specs.View.{held}
+use Rattle.peer_session.specs.Sound.{Full}
+use Rattle.session.specs.declared.Returned.{Returned}
+use Rattle.session.specs.declared.Told.{Told}
+use Rattle.session.specs.Promise.{Exit, exit, lent, unchanged, promise, Called, CalledWithList, CalledWithOutbound, CalledWithStores, CalledWithOutboundAlone, CalledWithStoresAlone, CalledAlone, ToldWithList, Answered}
+use Rattle.starts.specs.declared.Reliable as Code
+use Rattle.starts.specs.Started.{short-record, Started}
+use Rattle.starts.specs.Records.{reliableOf}
+use Rattle.history.specs.Shown.{Shown, read-words}
+
+-- ---- what a host has in hand
+
+-- a session: its struct, whose arrays have their lengths, and its two stores
+pub record Session : Type 0 where
+  pub code : SessionState
+  pub full : Full code
+  pub outbound : Bytes
+  pub queue : Bytes
+
+-- what else is lent to a call: an event list and a delivery buffer, of any contents and any length (too short ones give refusal 1)
+pub record Buffers : Type 0 where
+  pub list : List ℕ
+  pub delivery : Bytes
+
+-- after a call: the session, what the call returned, and what those buffers hold
+pub record Left : Type 0 where
+  pub session : Session
+  pub answer : Answer
+  pub events : ℕ
+  pub list : List ℕ
+  pub delivery : Bytes
+
+abbrev pub shown-by : Left → Shown
+shown-by z = record { answer = z .answer; events = read-words (z .events) (z .list); delivery = z .delivery; outbound = z .session .outbound }
+
+-- ---- a start
+
+-- "Both ends start Raw, at message number 1, remote 0, with nothing unacked, under any policies": any disposition and reject body, and two stores
+pub record Opening : Type 0 where
+  pub policy : Policy
+  pub disposition : ℕ
+  pub reject : Bytes
+  pub outbound : Bytes
+  pub queue : Bytes
+
+-- `starts::start` gave this session
+abbrev pub Starts : Opening → Session → Type 0
+Starts a x =
+    Started (record { «message_number» = 1; «remote_number» = 0; disposition = a .disposition }) [] [] [] (a .policy) (a .reject) (a .outbound) (a .queue)
+    (record { session = x .code; answer = Done; events = 0 }) (x .outbound) (x .queue)
+
+-- ---- the other calls, by what they are lent. What a call is not lent, or only to read, is as it was
+
+abbrev returned : Left → Returned
+returned z = record { session = z .session .code; answer = z .answer; events = z .events }
+
+abbrev told : Left → Told
+told z = record { answer = z .answer; events = z .events }
+
+-- only the answer is new
+abbrev pub only-answers : Buffers → Session → Answer → Left
+only-answers l x a = record { session = x; answer = a; events = 0; list = l .list; delivery = l .delivery }
+
+module _ (c : Call) (l : Buffers) (x : Session) (z : Left) where
+  abbrev pub Takes-all : Type 0
+  Takes-all = Called c (x .code) (lent (l .list) (l .delivery) (x .outbound) (x .queue)) (returned z) (lent (z .list) (z .delivery) (z .session .outbound) (z .session .queue))
+
+  abbrev pub Takes-list-and-stores : Type 0
+  Takes-list-and-stores = CalledWithStores c (x .code) (l .list) (x .outbound) (x .queue) (returned z) (z .list) (z .session .outbound) (z .session .queue) × (z .delivery ≡ l .delivery)
+
+  abbrev pub Takes-list-and-outbound : Type 0
+  Takes-list-and-outbound = CalledWithOutbound c (x .code) (l .list) (x .outbound) (returned z) (z .list) (z .session .outbound) × (z .delivery ≡ l .delivery) × (z .session .queue ≡ x .queue)
+
+  abbrev pub Takes-list : Type 0
+  Takes-list = CalledWithList c (x .code) (l .list) (returned z) (z .list) × (z .delivery ≡ l .delivery) × (z .session .outbound ≡ x .outbound) × (z .session .queue ≡ x .queue)
+
+  abbrev pub Takes-list-to-tell : Type 0
+  Takes-list-to-tell = ToldWithList c (x .code) (l .list) (told z) (z .list) × (z .session ≡ x) × (z .delivery ≡ l .delivery)
+
+  abbrev pub Takes-stores : Type 0
+  Takes-stores = CalledWithStoresAlone c (x .code) (x .outbound) (x .queue) (returned z) (z .session .outbound) (z .session .queue) × (z .list ≡ l .list) × (z .delivery ≡ l .delivery)
+
+  abbrev pub Takes-outbound : Type 0
+  Takes-outbound = CalledWithOutboundAlone c (x .code) (x .outbound) (returned z) (z .session .outbound) × (z .list ≡ l .list) × (z .delivery ≡ l .delivery) × (z .session .queue ≡ x .queue)
+
+  abbrev pub Takes-nothing : Type 0
+  Takes-nothing = CalledAlone c (x .code) (returned z) × (z .list ≡ l .list) × (z .delivery ≡ l .delivery) × (z .session .outbound ≡ x .outbound) × (z .session .queue ≡ x .queue)
+
+  abbrev pub Only-answers : Type 0
+  Only-answers = Answered c (x .code) (z .answer) × (z ≡ only-answers l x (z .answer))
+
+-- `fetching::find` takes the outbound store and only answers
+abbrev pub AnsweredWithOutbound : Call → SessionState → Bytes → Answer → Type 0
+AnsweredWithOutbound c s o a = (l : List ℕ) (d q : Bytes) → queue-bytes ≤ length q → exit (held s) a 0 (lent l d o q) ≡ promise c s (lent l d o q)
+
+abbrev pub Finds : ℕ → Buffers → Session → Left → Type 0
+Finds n l x z = AnsweredWithOutbound (fetches n) (x .code) (x .outbound) (z .answer) × (z ≡ only-answers l x (z .answer))
+
+-- `restores::restore` takes its record's messages as three slices
+abbrev pub Restored : Code.Reliable → List ℕ → List ℕ → Bytes → Option Handoff → SessionState → Bytes → Returned → Bytes → Type 0
+Restored r ns ks b h s o x o′ =
+    (l : List ℕ) (d q : Bytes) → queue-bytes ≤ length q
+    → exit (held (x .session)) (x .answer) (x .events) (lent l d o′ q)
+    ≡ (if short-record ns ks b then unchanged ShortBuffer s (lent l d o q) else promise (restores (reliableOf r ns ks b) h) s (lent l d o q))
+
+pub record Restores (r : Reliable) (h : Option Handoff) (l : Buffers) (x : Session) (z : Left) : Type 0 where
+  pub given : Code.Reliable
+  pub numbers : List ℕ
+  pub lengths : List ℕ
+  pub bodies : Bytes
+  pub is : reliableOf given numbers lengths bodies ≡ r
+  pub does : Restored given numbers lengths bodies h (x .code) (x .outbound) (returned z) (z .session .outbound)
+  pub list : z .list ≡ l .list
+  pub delivery : z .delivery ≡ l .delivery
+  pub queue : z .session .queue ≡ x .queue
+
+-- with these buffers, this call, made on this session, left that
+abbrev pub Meets : Call → Buffers → Session → Left → Type 0
+Meets (sends b) = Takes-list-and-outbound (sends b)
+Meets (gets-data status f) = Takes-all (gets-data status f)
+Meets (gets-ack n) = Takes-list-and-stores (gets-ack n)
+Meets gets-keepalive = Takes-list-to-tell gets-keepalive
+Meets (is-ready status mode) = Takes-all (is-ready status mode)
+Meets (accepts terms b) = Takes-outbound (accepts terms b)
+Meets rejects = Takes-list-and-outbound rejects
+Meets (prepares-channel terms) = Takes-nothing (prepares-channel terms)
+Meets (commands restoring c) = Takes-list-and-outbound (commands restoring c)
+Meets prepares = Only-answers prepares
+Meets (completes c persisted) = Takes-list (completes c persisted)
+Meets (connects event now forced) = Takes-list (connects event now forced)
+Meets (reports what n accepted) = Takes-list (reports what n accepted)
+Meets (fetches n) = Finds n
+Meets (retires retain) = Takes-stores (retires retain)
+Meets (restores r h) = Restores r h
