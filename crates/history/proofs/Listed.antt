@@ -33,7 +33,7 @@ unfolding read-words flat
 read-flat [] rest = refl
 read-flat (w ∷ ws) rest = ap (λ z. w ∷ z) (read-flat ws rest)
 
-length-listed : (us : List Unacked) (at : ℕ) (es : List Event) → length (listed us at es) ≡ length es
+pub length-listed : (us : List Unacked) (at : ℕ) (es : List Event) → length (listed us at es) ≡ length es
 unfolding listed
 length-listed us at [] = refl
 length-listed us at (e ∷ es) = ap suc (length-listed us (at + length (handed e)) es)

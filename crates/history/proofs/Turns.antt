@@ -95,7 +95,7 @@ unfolding queue-after repacked
 queued-after c s q p true e =
     let fs : Bytes = packed frame-body (step c s .state .inbox .queue) in
     (replicate (queue-reach c s - length fs) 0 ++ drop (max (queue-reach c s) (length fs)) q, refl)
-queued-after c s q p false e = (p .0, p .1 ∙ ap (λ z. z ++ p .0) (sym (left-queue c s e)))
+queued-after c s q p false e = (p .0, p .1 ∙ ap (λ z. packed frame-body z ++ p .0) (sym (left-queue c s e)))
 
 pub packed-next : (v : Gate) (l : Buffers) (c : Call) (t : Viewed) → Packed (t .outbound) (t .state) → Packed (next v l c t .outbound) (next v l c t .state)
 packed-next passes l c t p = packed-after c (t .state) (t .outbound) p (taken-by c .outbound) refl

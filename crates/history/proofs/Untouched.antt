@@ -12,24 +12,17 @@ use Rattle.rules.specs.declared.Setup.{Setup}
 use Rattle.rules.specs.declared.Setup.the-variants.{None, Waiting, Started, Retired}
 use Rattle.rules.specs.declared.Answer.the-variants.{Done}
 use Rattle.rules.specs.Lists.{Bytes, if_then_else_, packed, empty}
-use Rattle.rules.specs.State.{Message, Frame, Unacked, Handoff, State, body-of, frame-body}
+use Rattle.rules.specs.State.{Frame, Unacked, Handoff, State, body-of}
 use Rattle.rules.specs.Progress.{_then_, Outcome, answers, _refuses_when_else_}
 use Rattle.rules.specs.Setup.{prepare-in, prepare-channel}
 use Rattle.rules.specs.Acks.{sent, receive-keepalive, send-handoff, report-data, retries-full, report-ack, report}
 use Rattle.rules.specs.Commits.{prepare-commit, releases, release, after-release, release-by, persist-by, past-last-number, notify-committed, complete-commit}
 use Rattle.rules.specs.Replay.{too-soon, connectivity}
-use Rattle.rules.specs.Handoff.{Command}
-use Rattle.rules.specs.Start.{Reliable, good-record, handoff-size, too-late, restored, agrees, restore-terminal, restore}
 use Rattle.rules.specs.Calls.{Call, sends, gets-data, gets-ack, gets-keepalive, is-ready, accepts, rejects, prepares-channel, commands, prepares, completes, connects, reports, fetches, retires, restores, step}
 use Rattle.rules.specs.Buffers.{taken-by}
 use Rattle.rules.proofs.Lists.{if-rule}
-use Rattle.history.proofs.Model
-use Rattle.history.proofs.Model.{Session, dataFrame, ackFrame}
-use Rattle.history.proofs.Step.{Step}
-use Rattle.history.proofs.StepLaws.{same-queue}
-use Rattle.history.proofs.Core.{core, message-of}
-use Rattle.history.proofs.Calls.{Quiet, refuses-rule, Gave, refused, took, Accepted, Commanded, sends-gave, rejects-gave, accepts-gave, commands-gave}
-use Rattle.history.proofs.Others.{keepalive-steps, prepare-steps, complete-steps, Connected, not-event, holds-back, replays, connect-steps, Reported, not-frame, of-data, of-ack, report-steps, prepare-channel-quiet, fetch-quiet}
+use Rattle.history.proofs.Calls.{refuses-rule}
+use Rattle.history.proofs.Independent.{Along, along, step-q}
 
 -- ---- the outbound store
 
@@ -116,71 +109,8 @@ left-bodies (restores r h) s e = absurd (true≢false e)
 
 -- ---- the queue store
 
-abbrev Queue : Session → Outcome → Type 0
-Queue σ o = map message-of (o .state .inbox .queue) ≡ σ .inn .que
+along-queue : {fs : List Frame} {o u : Outcome} → Along fs o u → u .state .inbox .queue ≡ fs
+along-queue along = refl
 
-quiet-queue : (σ : Session) (o : Outcome) → Quiet σ o → Queue σ o
-quiet-queue σ o q = ap (λ (z : Session). z .inn .que) (q .same)
-
-gave-queue : (σ : Session) (b : Bytes) (o : Outcome) → Gave σ b o → Queue σ o
-gave-queue σ b o (refused q r) = quiet-queue σ o q
-gave-queue σ b o (took h r) = same-queue σ (Model.send b) _ h tt
-
-accepted-queue : (i : Bool) (σ : Session) (b : Bytes) (o : Outcome) → Accepted i σ b o → Queue σ o
-accepted-queue true σ b o g = gave-queue σ b o g
-accepted-queue false σ b o g = quiet-queue σ o g
-
-commanded-queue : (c : Option Command) (h : Option Handoff) (σ : Session) (o : Outcome) → Commanded c h σ o → Queue σ o
-commanded-queue none h σ o g = quiet-queue σ o g
-commanded-queue (some c) none σ o g = gave-queue σ (c .body) o g
-commanded-queue (some c) (some h) σ o g = quiet-queue σ o g
-
-connected-queue : (event : ℕ) (forced : Bool) (σ : Session) (o : Outcome) → Connected event forced σ o → Queue σ o
-connected-queue event forced σ o (not-event q r) = quiet-queue σ o q
-connected-queue event forced σ o (holds-back h r) = same-queue σ (Model.connect false) _ h tt
-connected-queue event forced σ o (replays h) = same-queue σ (Model.connect true) _ h tt
-
-reported-queue : (what n : ℕ) (a : Bool) (σ : Session) (o : Outcome) → Reported what n a σ o → Queue σ o
-reported-queue what n a σ o (not-frame q r z) = quiet-queue σ o q
-reported-queue what n a σ o (of-data h z) = same-queue σ (Model.report (dataFrame n) a) _ h tt
-reported-queue what n a σ o (of-ack h z z′) = same-queue σ (Model.report (ackFrame n) a) _ h tt
-
-restored-queue : (r : Reliable) (h : Option Handoff) (s : State) → Queue (core s) (restore r h s)
-unfolding restore restore-terminal restored
-restored-queue r h s =
-    let Q : Outcome → Type 0 = Queue (core s) in
-    refuses-rule Q s _ (ltb 4 (r .disposition)) _ (λ e. refl) λ e.
-    refuses-rule Q s _ (not (good-record r)) _ (λ e. refl) λ e.
-    refuses-rule Q s _ (ltb 4096 (handoff-size h)) _ (λ e. refl) λ e.
-    refuses-rule Q s _ (too-late s) _ (λ e. refl) λ e.
-    if-rule (λ p. Q (answers Done p)) (agrees (s .stage .handoff) h) _ _ (λ e. refl) (λ e. refl)
-
-same-messages : (c : Call) (s : State) → taken-by c .queue ≡ false → Queue (core s) (step c s)
-unfolding taken-by step
-same-messages (sends b) s e = gave-queue (core s) b _ (sends-gave b s)
-same-messages (gets-data status f) s e = absurd (true≢false e)
-same-messages (gets-ack n) s e = absurd (true≢false e)
-same-messages gets-keepalive s e = same-queue (core s) Model.keepalive _ (keepalive-steps s) tt
-same-messages (is-ready status mode) s e = absurd (true≢false e)
-same-messages (accepts terms b) s e = accepted-queue (terms .initiator) (core s) b _ (accepts-gave terms b s)
-same-messages rejects s e = gave-queue (core s) (s .fixed .reject) _ (rejects-gave s)
-same-messages (prepares-channel terms) s e = quiet-queue (core s) _ (prepare-channel-quiet terms s)
-same-messages (commands restoring c) s e = commanded-queue c (s .stage .handoff) (core s) _ (commands-gave restoring c s)
-same-messages prepares s e = same-queue (core s) Model.prepare _ (prepare-steps s) tt
-same-messages (completes c persisted) s e = same-queue (core s) (Model.complete c persisted) _ (complete-steps c s persisted) tt
-same-messages (connects event now forced) s e = connected-queue event forced (core s) _ (connect-steps event now forced s)
-same-messages (reports what n accepted) s e = reported-queue what n accepted (core s) _ (report-steps what n accepted s)
-same-messages (fetches n) s e = quiet-queue (core s) _ (fetch-quiet n s)
-same-messages (retires retain) s e = absurd (true≢false e)
-same-messages (restores r h) s e = restored-queue r h s
-
-abbrev message-body : Message → Bytes
-message-body m = m .body
-
-packed-messages : (fs : List Frame) → packed frame-body fs ≡ packed message-body (map message-of fs)
-unfolding packed
-packed-messages [] = refl
-packed-messages (f ∷ fs) = ap (λ z. f .body ++ z) (packed-messages fs)
-
-pub left-queue : (c : Call) (s : State) → taken-by c .queue ≡ false → packed frame-body (step c s .state .inbox .queue) ≡ packed frame-body (s .inbox .queue)
-left-queue c s e = packed-messages (step c s .state .inbox .queue) ∙ ap (packed message-body) (same-messages c s e) ∙ sym (packed-messages (s .inbox .queue))
+pub left-queue : (c : Call) (s : State) → taken-by c .queue ≡ false → step c s .state .inbox .queue ≡ s .inbox .queue
+left-queue c s e = along-queue (step-q (s .inbox .queue) c s e refl)
