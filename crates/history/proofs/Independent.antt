@@ -353,24 +353,24 @@ pub record Alike (a b : Outcome) : Type 0 where
 encode-dull : (s : State) → encode (ds s) ≡ encode s
 unfolding encode
 encode-dull s = λ i. record {
-      next = s .outbox .next;
-      unackeds = lengths (s .outbox .unacked) i;
-      unacked = records (s .outbox .unacked) i;
-      remote = s .inbox .remote;
-      released = s .inbox .released;
-      queues = length (s .inbox .queue);
-      queue = map recordQ (s .inbox .queue);
-      waits = length (s .inbox .waiting);
-      waiting = s .inbox .waiting;
-      retries = length (s .inbox .retry);
-      retry = s .inbox .retry;
-      clock = s .clock;
-      stage = s .stage;
-      handoff-size = handoff-size (s .stage .handoff);
-      policy = s .fixed .policy;
-      reject-size = length (s .fixed .reject);
-      reject = s .fixed .reject;
-    }
+  next = s .outbox .next;
+  unackeds = lengths (s .outbox .unacked) i;
+  unacked = records (s .outbox .unacked) i;
+  remote = s .inbox .remote;
+  released = s .inbox .released;
+  queues = length (s .inbox .queue);
+  queue = map recordQ (s .inbox .queue);
+  waits = length (s .inbox .waiting);
+  waiting = s .inbox .waiting;
+  retries = length (s .inbox .retry);
+  retry = s .inbox .retry;
+  clock = s .clock;
+  stage = s .stage;
+  handoff-size = handoff-size (s .stage .handoff);
+  policy = s .fixed .policy;
+  reject-size = length (s .fixed .reject);
+  reject = s .fixed .reject;
+}
   where
     lengths : (us : List Unacked) → length (map dull us) ≡ length us
     lengths [] = refl
@@ -448,25 +448,30 @@ pub record Beside (a b : Outcome) : Type 0 where
 
 along-beside : {fs gs : List Frame} {o u v : Outcome} → map recordQ fs ≡ map recordQ gs → length fs ≡ length gs → Along fs o u → Along gs o v → Beside u v
 unfolding encode
-along-beside p q (along {s = s}) along = record { session = λ i. record {
-      next = s .outbox .next;
-      unackeds = length (s .outbox .unacked);
-      unacked = map recordU (s .outbox .unacked);
-      remote = s .inbox .remote;
-      released = s .inbox .released;
-      queues = q i;
-      queue = p i;
-      waits = length (s .inbox .waiting);
-      waiting = s .inbox .waiting;
-      retries = length (s .inbox .retry);
-      retry = s .inbox .retry;
-      clock = s .clock;
-      stage = s .stage;
-      handoff-size = handoff-size (s .stage .handoff);
-      policy = s .fixed .policy;
-      reject-size = length (s .fixed .reject);
-      reject = s .fixed .reject;
-    }; answer = refl; events = refl; outbox = refl }
+along-beside p q (along {s = s}) along = record {
+  session = λ i. record {
+    next = s .outbox .next;
+    unackeds = length (s .outbox .unacked);
+    unacked = map recordU (s .outbox .unacked);
+    remote = s .inbox .remote;
+    released = s .inbox .released;
+    queues = q i;
+    queue = p i;
+    waits = length (s .inbox .waiting);
+    waiting = s .inbox .waiting;
+    retries = length (s .inbox .retry);
+    retry = s .inbox .retry;
+    clock = s .clock;
+    stage = s .stage;
+    handoff-size = handoff-size (s .stage .handoff);
+    policy = s .fixed .policy;
+    reject-size = length (s .fixed .reject);
+    reject = s .fixed .reject;
+  };
+  answer = refl;
+  events = refl;
+  outbox = refl;
+}
 
 same-empty : (fs gs : List Frame) → length fs ≡ length gs → empty fs ≡ empty gs
 same-empty [] [] e = refl

@@ -1,7 +1,7 @@
 -- What the contracts of the exported calls say, in the rule book's words: a start gives a new session, and a call leaves and shows what the rule book
 -- says of the session that it was made on. Assumes nothing.
 use mathlib.Core.Path.{_≡_, refl, sym, ap, _∙_, subst}
-use mathlib.Core.Bool.{Bool, true, false, _&&_, _||_}
+use mathlib.Core.Bool.{Bool, true, false, _&&_, _||_, true≢false}
 use mathlib.Core.List.{List, [], _++_}
 use mathlib.Core.Option.{Option}
 use Prim.Native.Nat.{ℕ, _≤_}
@@ -13,20 +13,21 @@ use Rattle.rules.specs.declared.Answer.{Answer}
 use Rattle.rules.specs.declared.Answer.the-variants.{Done, Refused}
 use Rattle.rules.specs.declared.Refusal.{Refusal}
 use Rattle.rules.specs.declared.Refusal.the-variants.{ShortBuffer, UnknownCode}
-use Rattle.rules.specs.Lists.{Bytes, if_then_else_, packed}
+use Rattle.rules.specs.Lists.{Bytes, if_then_else_, total, packed}
 use Rattle.rules.specs.State.{Handoff, State, body-of, frame-body}
 use Rattle.rules.specs.Start.{Reliable, Start, started, unstarted, good-record, good-policy, good-reject, new, start}
 use Rattle.rules.specs.Sound.{sound}
 use Rattle.rules.specs.Calls.{Call, sends, gets-data, gets-ack, gets-keepalive, is-ready, accepts, rejects, prepares-channel, commands, prepares, completes, connects, reports, fetches, retires, restores, step}
 use Rattle.rules.specs.Buffers.{Lent, takes, taken-by, short, wrong-code, filled, outbound-end, queue-end, lent-after, new-stores}
 use Rattle.rules.proofs.Lists.{if-rule}
-use Rattle.rules.proofs.Sound.{parts-sound, step-sound}
+use Rattle.rules.proofs.Sound.{sound-parts, parts-sound, step-sound}
 use Rattle.peer_session.specs.declared.SessionState.{SessionState}
 use Rattle.peer_session.specs.View.{Held, held, encode, stateOf}
 use Rattle.peer_session.specs.Sound.{soundOf}
 use Rattle.peer_session.proofs.View.{held-view}
 use Rattle.peer_session.proofs.Lasting.{settles-sound}
 use Rattle.session.specs.Promise.{Exit, exit, lent, unchanged, follows, promise}
+use Rattle.session.proofs.Lengths.{long-enough, not-taken}
 use Rattle.session.proofs.Promises.{promise-short, promise-code, promise-follows}
 use Rattle.session.proofs.Entry.{Entered, entered}
 use Rattle.starts.specs.Started.{messagesOf, short-record, begins, startPromise}
@@ -35,9 +36,10 @@ use Rattle.starts.proofs.Lasting.{starts-sound}
 use Rattle.history.specs.Shown.{Shown, read-words}
 use Rattle.history.specs.Contracts.{Session, Buffers, Left, shown-by, Opening, Starts, only-answers, Takes-all, Restores, Meets}
 use Rattle.history.proofs.Calls.{or-left, or-right}
-use Rattle.history.proofs.Viewed.{Viewed, view, lent-to, Gate, passes, is-short, is-unknown, outcome-of, left-of, next, shown}
+use Rattle.history.proofs.Viewed.{Viewed, view, lent-to, Gate, passes, is-short, is-unknown, is-restore, gate-by, outcome-of, left-of, next, shown}
 use Rattle.history.proofs.Turns.{Packed, Queued, packed-next, queued-next, long-next, long-queue-next}
 use Rattle.history.proofs.Listed.{list-read}
+use Rattle.history.proofs.Realised.{realised, realised-held, realised-full}
 
 -- a session that calls leave, with stores as long as named
 pub record Whole (x : Session) : Type 0 where
@@ -87,26 +89,30 @@ module _ (l : Buffers) (x : Session) (z : Left) (w : Whole x) where
   as-it-was : (r : Refusal) → unchanged r (x .code) at ≡ exit (encode s) (Refused r) 0 at
   as-it-was r = ap (λ (h : Held). exit h (Refused r) 0 at) (within .held-is)
 
-  fares : (c : Call) → Takes-all c l x z → (v : Gate) × Fares v c
+  -- a gate, and that it is by the tests, but for a restore
+  abbrev Fared : Call → Type 0
+  Fared c = (v : Gate) × Fares v c × (is-restore c ≡ false → v ≡ gate-by (short (taken-by c) at) (wrong-code c))
+
+  fares : (c : Call) → Takes-all c l x z → Fared c
   unfolding follows lent-after
   fares c h = at-short (short (taken-by c) at) refl
     where
-      at-code : (b : Bool) → short (taken-by c) at ≡ false → wrong-code c ≡ b → (v : Gate) × Fares v c
-      at-code true long e = (is-unknown, h ∙ promise-code c (x .code) at long e ∙ as-it-was UnknownCode)
-      at-code false long e = (passes, h ∙ promise-follows c (x .code) at long e (w .sound) ∙ rw long refl)
+      at-code : (b : Bool) → short (taken-by c) at ≡ false → wrong-code c ≡ b → Fared c
+      at-code true long e = (is-unknown, h ∙ promise-code c (x .code) at long e ∙ as-it-was UnknownCode, λ r. rw (long, e) refl)
+      at-code false long e = (passes, h ∙ promise-follows c (x .code) at long e (w .sound) ∙ rw long refl, λ r. rw (long, e) refl)
 
-      at-short : (b : Bool) → short (taken-by c) at ≡ b → (v : Gate) × Fares v c
-      at-short true e = (is-short, h ∙ promise-short c (x .code) at e ∙ as-it-was ShortBuffer)
+      at-short : (b : Bool) → short (taken-by c) at ≡ b → Fared c
+      at-short true e = (is-short, h ∙ promise-short c (x .code) at e ∙ as-it-was ShortBuffer, λ r. rw e refl)
       at-short false e = at-code (wrong-code c) e refl
 
-  restore-fares : (r : Reliable) (h : Option Handoff) → Restores r h l x z → (v : Gate) × Fares v (restores r h)
+  restore-fares : (r : Reliable) (h : Option Handoff) → Restores r h l x z → Fared (restores r h)
   restore-fares r h m = go (short-record (m .numbers) (m .lengths) (m .bodies)) (m .does (l .list) (l .delivery) (x .queue) (w .queue))
     where
-      go : (b : Bool) → Found (z .session) (z .answer) (z .events) (lent (l .list) (l .delivery) (z .session .outbound) (x .queue)) ≡ (if b then unchanged ShortBuffer (x .code) at else promise (restores (reliableOf (m .given) (m .numbers) (m .lengths) (m .bodies)) h) (x .code) at) → (v : Gate) × Fares v (restores r h)
-      go true e = (is-short, unlent l x z _ e (m .list) (m .delivery) refl (m .queue) ∙ as-it-was ShortBuffer)
+      go : (b : Bool) → Found (z .session) (z .answer) (z .events) (lent (l .list) (l .delivery) (z .session .outbound) (x .queue)) ≡ (if b then unchanged ShortBuffer (x .code) at else promise (restores (reliableOf (m .given) (m .numbers) (m .lengths) (m .bodies)) h) (x .code) at) → Fared (restores r h)
+      go true e = (is-short, unlent l x z _ e (m .list) (m .delivery) refl (m .queue) ∙ as-it-was ShortBuffer, λ r. absurd (true≢false r))
       go false e = fares (restores r h) (unlent l x z _ e (m .list) (m .delivery) refl (m .queue) ∙ ap (λ (y : Reliable). promise (restores y h) (x .code) at) (m .is))
 
-  meets-fares : (c : Call) → Meets c l x z → (v : Gate) × Fares v c
+  meets-fares : (c : Call) → Meets c l x z → Fared c
   meets-fares (sends b) m = fares (sends b) (unlent l x z _ (m .0 (l .delivery) (x .queue) (w .queue)) refl (m .1) refl (m .2))
   meets-fares (gets-data status f) m = fares (gets-data status f) m
   meets-fares (gets-ack n) m = fares (gets-ack n) (unlent l x z _ (m .0 (l .delivery)) refl (m .1) refl refl)
@@ -142,6 +148,7 @@ queued-view x w =
 
 pub record Goes (l : Buffers) (c : Call) (x : Session) (z : Left) : Type 0 where
   pub gate : Gate
+  pub gated : is-restore c ≡ false → gate ≡ gate-by (short (taken-by c) (lent-to l (view x))) (wrong-code c)
   pub leaves : view (z .session) ≡ next gate l c (view x)
   pub shows : shown-by z ≡ shown gate l c (view x)
   pub whole : Whole (z .session)
@@ -152,8 +159,8 @@ outcome-sound is-short c s h = h
 outcome-sound is-unknown c s h = h
 
 module _ (l : Buffers) (c : Call) (x : Session) (z : Left) (w : Whole x) where
-  goes-by : (v : Gate) → Fares l x z w v c → Goes l c x z
-  goes-by v f =
+  goes-by : (v : Gate) → Fares l x z w v c → (is-restore c ≡ false → v ≡ gate-by (short (taken-by c) (lent-to l (view x))) (wrong-code c)) → Goes l c x z
+  goes-by v f g =
       let t = outcome-of v c (view x .state) in
       let n = next v l c (view x) in
       let a : z .answer ≡ t .answer = ap (λ (y : Exit). y .answer) f in
@@ -171,6 +178,7 @@ module _ (l : Buffers) (c : Call) (x : Session) (z : Left) (w : Whole x) where
       let e = entered (x .code) (x .outbound) (x .queue) (w .sound) (x .full) (w .outbound) (w .queue) in
       record {
         gate = v;
+        gated = g;
         leaves = λ i. record { state = st i; outbound = os i; queue = qs i };
         shows = λ i. record { answer = a i; events = es i; delivery = ds i; outbound = os i };
         whole =
@@ -182,7 +190,7 @@ module _ (l : Buffers) (c : Call) (x : Session) (z : Left) (w : Whole x) where
       }
 
   pub goes : Meets c l x z → Goes l c x z
-  goes m = let f = meets-fares l x z w c m in goes-by (f .0) (f .1)
+  goes m = let f = meets-fares l x z w c m in goes-by (f .0) (f .1) (f .2)
 
 -- ---- a start
 
@@ -234,3 +242,21 @@ module _ (a : Opening) (x : Session) (h : Starts a x) where
       if-rule (λ (y : Start). Sure (begins y lent-first)) (ltb 4 (a .disposition)) _ _ (λ e. not-started _) λ e.
       if-rule (λ (y : Start). Sure (begins y lent-first)) (good-record (first-record (a .disposition)) && good-policy (a .policy) && good-reject (a .reject)) _ _ (λ e. begun lo lq) (λ e. not-started _))
       (h [] [])
+
+-- a start that the rule book does not refuse can be had
+pub startable : (a : Opening) → 65536 ≤ length (a .outbound) → 32768 ≤ length (a .queue) → start (first-record (a .disposition)) (a .policy) (a .reject) ≡ started (opened a .state) → sound (opened a .state) ≡ true → Session
+startable a lo lq q h =
+    record {
+      code = realised (opened a .state);
+      full = realised-full (opened a .state) (sound-parts (opened a .state) h);
+      outbound = opened a .outbound;
+      queue = opened a .queue;
+    }
+
+pub startable-starts : (a : Opening) (lo : 65536 ≤ length (a .outbound)) (lq : 32768 ≤ length (a .queue)) (q : start (first-record (a .disposition)) (a .policy) (a .reject) ≡ started (opened a .state)) (h : sound (opened a .state) ≡ true)
+    → Starts a (startable a lo lq q h)
+unfolding startable startPromise messagesOf total new-stores new packed
+startable-starts a lo lq q h l d =
+    let m : Lent = lent l d (a .outbound) (a .queue) in
+    let long : short (takes false false true true) m ≡ false = long-enough (takes false false true true) m not-taken not-taken (λ e. lo) (λ e. lq) in
+    sym (rw long (ap (λ (y : Start). begins y m) q ∙ ap (λ (k : Held). exit k Done 0 (lent l d (opened a .outbound) (opened a .queue))) (sym (realised-held (opened a .state)))))

@@ -315,8 +315,8 @@ module _ (l : Buffers) (x : Session) (w : Whole x) where
       → Takes-list-to-tell c l x (record { session = x; answer = P c .answer; events = P c .events; list = P c .lent .list; delivery = l .delivery })
   told-only c is e = (
     λ d o q h k.
-    ap (λ (y : Held). exit y (P c .answer) (P c .events) (lent (P c .lent .list) d o q)) (sym (still c e))
-    ∙ sym (with-list c s (w .sound) (x .full) is (l .list) d (l .delivery) o (x .outbound) q (x .queue) (h, k) all-long),
+        ap (λ (y : Held). exit y (P c .answer) (P c .events) (lent (P c .lent .list) d o q)) (sym (still c e))
+        ∙ sym (with-list c s (w .sound) (x .full) is (l .list) d (l .delivery) o (x .outbound) q (x .queue) (h, k) all-long),
     refl,
     refl,
   )
@@ -324,8 +324,8 @@ module _ (l : Buffers) (x : Session) (w : Whole x) where
   answered-only : (c : Call) → taken-by c ≡ takes false false false false → step c t .state ≡ t → step c t .events ≡ [] → Only-answers c l x (only-answers l x (P c .answer))
   answered-only c is e f = (
     λ a d o q h k.
-    (λ i. exit (sym (still c e) i) (P c .answer) (sym (unlisted c f) i) (lent a d o q))
-    ∙ sym (with-nothing c s (w .sound) (x .full) is a (l .list) d (l .delivery) o (x .outbound) q (x .queue) (h, k) all-long),
+        (λ i. exit (sym (still c e) i) (P c .answer) (sym (unlisted c f) i) (lent a d o q))
+        ∙ sym (with-nothing c s (w .sound) (x .full) is a (l .list) d (l .delivery) o (x .outbound) q (x .queue) (h, k) all-long),
     refl,
   )
 

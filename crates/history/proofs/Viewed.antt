@@ -1,4 +1,5 @@
 -- A session as the rule book sees it, and what the rule book says of a call on it. Assumes nothing.
+use mathlib.Core.Bool.{Bool, true, false}
 use mathlib.Core.List.{[]}
 use Rattle.rules.specs.declared.Refusal.the-variants.{ShortBuffer, UnknownCode}
 use Rattle.rules.specs.declared.Answer.the-variants.{Refused}
@@ -6,7 +7,7 @@ use Rattle.rules.specs.Lists.{Bytes}
 use Rattle.rules.specs.State.{State}
 use Rattle.rules.specs.Events.{listed}
 use Rattle.rules.specs.Progress.{Outcome, outcome}
-use Rattle.rules.specs.Calls.{Call, step}
+use Rattle.rules.specs.Calls.{Call, sends, gets-data, gets-ack, gets-keepalive, is-ready, accepts, rejects, prepares-channel, commands, prepares, completes, connects, reports, fetches, retires, restores, step}
 use Rattle.rules.specs.Buffers.{Lent, taken-by, where-taken, list-after, delivery-after, outbound-after, queue-after}
 use Rattle.peer_session.specs.View.{stateOf}
 use Rattle.history.specs.Shown.{Shown}
@@ -28,6 +29,31 @@ pub data Gate : Type 0 where
   passes : Gate
   is-short : Gate
   is-unknown : Gate
+
+-- a restore is also refused by 1 for slices that do not hold its record
+abbrev pub is-restore : Call → Bool
+is-restore (sends b) = false
+is-restore (gets-data status f) = false
+is-restore (gets-ack n) = false
+is-restore gets-keepalive = false
+is-restore (is-ready status mode) = false
+is-restore (accepts terms b) = false
+is-restore rejects = false
+is-restore (prepares-channel terms) = false
+is-restore (commands restoring c) = false
+is-restore prepares = false
+is-restore (completes c persisted) = false
+is-restore (connects event now forced) = false
+is-restore (reports what n accepted) = false
+is-restore (fetches n) = false
+is-restore (retires retain) = false
+is-restore (restores r h) = true
+
+-- by whether a buffer is short, and a code outside its list
+abbrev pub gate-by : Bool → Bool → Gate
+gate-by true unknown = is-short
+gate-by false true = is-unknown
+gate-by false false = passes
 
 abbrev pub outcome-of : Gate → Call → State → Outcome
 outcome-of passes c s = step c s
