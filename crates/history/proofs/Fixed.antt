@@ -1,6 +1,5 @@
 -- No call changes the policy or the reject body. Assumes nothing.
 use mathlib.Core.Path.{_≡_, refl}
-use mathlib.Core.Bool.{Bool, true, false}
 use Prim.Native.Nat.{ℕ}
 use lib.Dec.{ltb}
 use Rattle.rules.specs.declared.HostStatus.{HostStatus}
@@ -10,7 +9,7 @@ use Rattle.rules.specs.Progress.{Outcome}
 use Rattle.rules.specs.Receiving.{mode-of, consumer-ready}
 use Rattle.rules.specs.Calls.{Call, sends, gets-data, gets-ack, gets-keepalive, is-ready, accepts, rejects, prepares-channel, commands, prepares, completes, connects, reports, fetches, retires, restores, step}
 use Rattle.rules.proofs.Kept.{consumer-ready-kept, step-kept}
-use Rattle.history.proofs.Calls.{refuses-rule}
+use Rattle.rules.proofs.RawCalls.{refuses-rule}
 use Rattle.history.proofs.Viewed.{Gate, passes, is-short, is-unknown, outcome-of}
 
 abbrev Stands : State → Outcome → Type 0

@@ -17,10 +17,10 @@ use Rattle.rules.specs.declared.Refusal.{Refusal}
 use Rattle.rules.specs.declared.Answer.{Answer}
 use Rattle.rules.specs.declared.Answer.the-variants.{Done}
 use Rattle.rules.specs.Lists.{Bytes, if_then_else_, empty, kept, before}
-use Rattle.rules.specs.State.{Frame, Unacked, Handoff, State, unacked-is, queue-is, size-of, is-number, start-of}
+use Rattle.rules.specs.State.{Frame, Unacked, Handoff, State, unacked-is, queue-is, is-number, start-of}
 use Rattle.rules.specs.Clock.{at-limit}
 use Rattle.rules.specs.Events.{Event, commit-requested, message, acknowledged, rejection-acknowledged, keepalive, committed, failure, send-data, send-ack, answer-ack, words-of, handed, listed}
-use Rattle.rules.specs.Progress.{Progress, goes, stops, stays, halts, listing, _then_, request, Outcome, outcome, answers, _refuses_when_else_}
+use Rattle.rules.specs.Progress.{Progress, goes, stops, stays, listing, _then_, request, Outcome, outcome, answers, _refuses_when_else_}
 use Rattle.rules.specs.Sending.{exhausted, no-room, numbered, allocate, send}
 use Rattle.rules.specs.Setup.{is-none, waiting-with, not-first, accept, reject, prepare-in, prepare-channel}
 use Rattle.rules.specs.Acks.{sent, receive-keepalive, send-handoff, report-data, retries-full, report-ack, report}
@@ -33,8 +33,8 @@ use Rattle.rules.specs.Buffers.{taken-by}
 use Rattle.outbox.specs.declared.Unacked as Code
 use Rattle.outbox.specs.View.{recordU}
 use Rattle.queue.specs.View.{recordQ}
-use Rattle.peer_session.specs.View.{Held, encode}
-use Rattle.history.proofs.MsgLaws.{map-append}
+use Rattle.peer_session.specs.View.{encode}
+use Rattle.rules.proofs.RangeLaws.{map-append}
 
 -- ---- the queue's frames: the call takes whatever they are along
 

@@ -10,11 +10,11 @@ use Rattle.rules.specs.declared.Setup.{Setup}
 use Rattle.rules.specs.declared.Setup.the-variants.{None, Waiting, Started, Retired}
 use Rattle.rules.specs.declared.Terms.{Terms}
 use Rattle.rules.specs.declared.Answer.the-variants.{Done}
-use Rattle.rules.specs.Lists.{Bytes, if_then_else_}
+use Rattle.rules.specs.Lists.{Bytes}
 use Rattle.rules.specs.State.{Unacked, State}
 use Rattle.rules.specs.Clock.{at-limit}
 use Rattle.rules.specs.Events.{Event, Words, handed, listed}
-use Rattle.rules.specs.Progress.{_then_, Outcome, answers, _refuses_when_else_}
+use Rattle.rules.specs.Progress.{_then_, Outcome, answers}
 use Rattle.rules.specs.Sending.{exhausted, no-room, allocate}
 use Rattle.rules.specs.Setup.{is-none, waiting-with, not-first, accept, prepare-in, prepare-channel}
 use Rattle.rules.specs.Commits.{prepare-commit}
@@ -24,8 +24,8 @@ use Rattle.rules.specs.Buffers.{taken-by, flat, over, where-taken, list-after}
 use Rattle.rules.proofs.Lists.{if-rule}
 use Rattle.history.specs.Shown.{read-words}
 use Rattle.history.specs.Contracts.{Buffers}
-use Rattle.history.proofs.Calls.{refuses-rule}
-use Rattle.history.proofs.Others.{retire-silent, restore-silent}
+use Rattle.rules.proofs.RawCalls.{refuses-rule}
+use Rattle.rules.proofs.RawOthers.{retire-silent, restore-silent}
 use Rattle.history.proofs.Viewed.{Viewed, Gate, passes, is-short, is-unknown, outcome-of, left-of, lent-to, shown}
 
 pub read-flat : (ws : List Words) (rest : List ℕ) → read-words (length ws) (flat ws ++ rest) ≡ ws

@@ -6,7 +6,7 @@ use mathlib.Core.List.{List, [], _++_}
 use mathlib.Core.Option.{Option}
 use Prim.Native.Nat.{ℕ, _≤_}
 use native.Mathlib.Omega.{arith}
-use lib.ListN.{length, take, drop, replicate, take-append-drop, length-append, length-replicate}
+use lib.ListN.{length, drop, take-append-drop, length-replicate}
 use lib.Dec.{ltb}
 use borrow.Author.Tests.{ltb-false}
 use Rattle.rules.specs.declared.Answer.{Answer}
@@ -14,15 +14,14 @@ use Rattle.rules.specs.declared.Answer.the-variants.{Done, Refused}
 use Rattle.rules.specs.declared.Refusal.{Refusal}
 use Rattle.rules.specs.declared.Refusal.the-variants.{ShortBuffer, UnknownCode}
 use Rattle.rules.specs.Lists.{Bytes, if_then_else_, total, packed}
-use Rattle.rules.specs.State.{Handoff, State, body-of, frame-body}
+use Rattle.rules.specs.State.{Handoff, State}
 use Rattle.rules.specs.Start.{Reliable, Start, started, unstarted, good-record, good-policy, good-reject, new, start}
 use Rattle.rules.specs.Sound.{sound}
-use Rattle.rules.specs.Calls.{Call, sends, gets-data, gets-ack, gets-keepalive, is-ready, accepts, rejects, prepares-channel, commands, prepares, completes, connects, reports, fetches, retires, restores, step}
+use Rattle.rules.specs.Calls.{Call, sends, gets-data, gets-ack, gets-keepalive, is-ready, accepts, rejects, prepares-channel, commands, prepares, completes, connects, reports, fetches, retires, restores}
 use Rattle.rules.specs.Buffers.{Lent, takes, taken-by, short, wrong-code, filled, outbound-end, queue-end, lent-after, new-stores}
 use Rattle.rules.proofs.Lists.{if-rule}
 use Rattle.rules.proofs.Sound.{sound-parts, parts-sound, step-sound}
-use Rattle.peer_session.specs.declared.SessionState.{SessionState}
-use Rattle.peer_session.specs.View.{Held, held, encode, stateOf}
+use Rattle.peer_session.specs.View.{Held, held, encode}
 use Rattle.peer_session.specs.Sound.{soundOf}
 use Rattle.peer_session.proofs.View.{held-view}
 use Rattle.peer_session.proofs.Lasting.{settles-sound}
@@ -33,9 +32,9 @@ use Rattle.session.proofs.Entry.{Entered, entered}
 use Rattle.starts.specs.Started.{messagesOf, short-record, begins, startPromise}
 use Rattle.starts.specs.Records.{reliableOf}
 use Rattle.starts.proofs.Lasting.{starts-sound}
-use Rattle.history.specs.Shown.{Shown, read-words}
+use Rattle.history.specs.Shown.{read-words}
 use Rattle.history.specs.Contracts.{Session, Buffers, Left, shown-by, Opening, Starts, only-answers, Takes-all, Restores, Meets}
-use Rattle.history.proofs.Calls.{or-left, or-right}
+use Rattle.rules.proofs.RawCalls.{or-left, or-right}
 use Rattle.history.proofs.Viewed.{Viewed, view, lent-to, Gate, passes, is-short, is-unknown, is-restore, gate-by, outcome-of, left-of, next, shown}
 use Rattle.history.proofs.Turns.{Packed, Queued, packed-next, queued-next, long-next, long-queue-next}
 use Rattle.history.proofs.Listed.{list-read}

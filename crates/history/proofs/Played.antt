@@ -2,29 +2,30 @@
 -- at a byte of a store or of a struct: so that an example computes. Each call's result is one that meets its contract. Assumes nothing.
 use mathlib.Core.Path.{_≡_, refl, sym, ap, _∙_, subst}
 use mathlib.Core.Bool.{Bool, true, false, not, _&&_, _||_}
-use mathlib.Core.List.{List, [], map}
-use Prim.Native.Nat.{ℕ, _≤_}
+use mathlib.Core.List.{[], map}
+use Prim.Native.Nat.{ℕ}
 use native.Mathlib.Omega.{arith}
 use lib.ListN.{length, replicate, length-replicate}
 use lib.Dec.{ltb}
 use borrow.Author.Tests.{le-ltb}
 use Rattle.rules.specs.declared.ReceiveMode.the-variants.{Raw}
 use Rattle.rules.specs.declared.Refusal.the-variants.{ShortBuffer, UnknownCode}
-use Rattle.rules.specs.Lists.{Bytes, if_then_else_}
+use Rattle.rules.specs.Lists.{Bytes}
 use Rattle.rules.specs.State.{State}
 use Rattle.rules.specs.Events.{listed}
 use Rattle.rules.specs.Progress.{Outcome, _refuses_when_else_}
 use Rattle.rules.specs.Calls.{Call, step}
 use Rattle.rules.specs.Buffers.{taken-by, short, wrong-code}
-use Rattle.history.specs.Shown.{Shown, record-in, is-refused, is-command, gives, lists-data, lists-acks, hands-over}
+use Rattle.rules.specs.Answers.{record-in, is-refused}
+use Rattle.history.specs.Shown.{Shown, is-command, gives, lists-data, lists-acks, hands-over}
 use Rattle.history.specs.Contracts.{Session, Buffers, Left, shown-by, Opening, Starts, Meets}
 use Rattle.history.specs.Histories.{End, left, right, other, own, History, opening, turn, session, start-of, Trace, nothing, trace, extended, covering, Same, Comes, Fits-in, Allowed, Legal}
 use Rattle.history.specs.Round.{counts, uncounted}
-use Rattle.history.proofs.Lists.{All, _⊕_}
-use Rattle.history.proofs.Reading.{gather, message-in, data-in, ack-in}
-use Rattle.history.proofs.Calls.{seen}
-use Rattle.history.proofs.Viewed.{Viewed, view, lent-to, Gate, is-restore, gate-by, outcome-of}
-use Rattle.history.proofs.Meets.{Whole, Goes, opened, Begun, starts}
+use Rattle.rules.specs.Lists.{All, _⊕_}
+use Rattle.rules.proofs.Gathered.{gather, message-in, data-in, ack-in}
+use Rattle.rules.proofs.RawCalls.{seen}
+use Rattle.history.proofs.Viewed.{Viewed, view, lent-to, is-restore, gate-by, outcome-of}
+use Rattle.history.proofs.Meets.{Whole, Goes, opened, starts}
 use Rattle.history.proofs.Possible.{possible}
 use Rattle.history.proofs.Prefix.{state-of, comes-by, did, gone, reads-at, fit-at, sane-at}
 

@@ -1,6 +1,6 @@
 -- Every call on every session of a history has a result that meets its contract: the statement asks for nothing that cannot be. Assumes nothing.
 use mathlib.Core.Path.{_≡_, refl, sym, ap, _∙_, subst}
-use mathlib.Core.Bool.{Bool, true, false, _||_}
+use mathlib.Core.Bool.{Bool, true, false}
 use mathlib.Core.List.{List, [], _∷_, _++_, map}
 use mathlib.Core.Option.{Option}
 use Prim.Native.Nat.{ℕ, _≤_}
@@ -8,12 +8,9 @@ use lib.ListN.{length, take, drop, length-append, length-map}
 use lib.Dec.{ltb}
 use borrow.Author.Tests.{le-ltb}
 use native.Mathlib.Omega.{arith}
-use Rattle.rules.specs.declared.Answer.{Answer}
-use Rattle.rules.specs.declared.Refusal.{Refusal}
 use Rattle.rules.specs.declared.Refusal.the-variants.{ShortBuffer, UnknownCode}
 use Rattle.rules.specs.Lists.{Bytes, if_then_else_, packed, total, itself}
-use Rattle.rules.specs.State.{Message, Unacked, Frame, Handoff, State, body-of}
-use Rattle.rules.specs.Events.{listed}
+use Rattle.rules.specs.State.{Message, Handoff, State, body-of}
 use Rattle.rules.specs.Progress.{Outcome}
 use Rattle.rules.specs.Acks.{receive-keepalive}
 use Rattle.rules.specs.Commits.{prepare-commit}
@@ -21,7 +18,7 @@ use Rattle.rules.specs.Replay.{fetch}
 use Rattle.rules.specs.Start.{Reliable, message-number, message-size}
 use Rattle.rules.specs.Calls.{Call, sends, gets-data, gets-ack, gets-keepalive, is-ready, accepts, rejects, prepares-channel, commands, prepares, completes, connects, reports, fetches, retires, restores, step}
 use Rattle.rules.specs.Buffers.{Lent, Takes, takes, taken-by, short, wrong-code, over, flat, list-after, repacked, outbound-end, outbound-after, lent-after}
-use Rattle.rules.proofs.Sound.{Sound, sound-parts, parts-sound, step-sound}
+use Rattle.rules.proofs.Sound.{sound-parts, parts-sound, step-sound}
 use Rattle.outbox.specs.View.{recordU, unackedOf}
 use Rattle.outbox.proofs.View.{exact-records}
 use Rattle.queue.specs.View.{recordQ, framesOf}
@@ -35,7 +32,7 @@ use Rattle.session.proofs.Entry.{Entered, entered}
 use Rattle.starts.specs.Started.{messagesOf, short-record}
 use Rattle.starts.specs.Records.{reliableOf}
 use Rattle.history.specs.Contracts.{Session, Buffers, Left, only-answers, Takes-all, Takes-list-and-stores, Takes-list-and-outbound, Takes-list, Takes-list-to-tell, Takes-stores, Takes-outbound, Takes-nothing, Only-answers, AnsweredWithOutbound, Restores, Meets}
-use Rattle.history.proofs.Viewed.{view, lent-to}
+use Rattle.history.proofs.Viewed.{view}
 use Rattle.history.proofs.Listed.{length-listed}
 use Rattle.history.proofs.Independent.{Alike, Beside, beside-alike, queue-beside, stores-alike}
 use Rattle.history.proofs.Realised.{realised, realised-held, realised-full}

@@ -1,14 +1,14 @@
 -- A struct that settles a given sound state: the arrays filled up with blanks. Assumes nothing.
-use mathlib.Core.Path.{_≡_, refl, sym, ap, _∙_}
-use mathlib.Core.Bool.{Bool, true, false}
+use mathlib.Core.Path.{_≡_, refl, ap}
+use mathlib.Core.Bool.{true, false}
 use mathlib.Core.List.{List, [], _∷_, _++_, map}
 use mathlib.Core.Option.{Option, none, some}
-use Prim.Native.Nat.{ℕ, suc, _-_, _≤_}
+use Prim.Native.Nat.{ℕ, _-_, _≤_}
 use native.Mathlib.Omega.{arith}
 use lib.ListN.{length, take, replicate, length-append, length-replicate, length-map}
 use lib.Dec.{leb}
 use borrow.Author.Tests.{leb-true}
-use Rattle.rules.specs.Lists.{Bytes, every}
+use Rattle.rules.specs.Lists.{Bytes}
 use Rattle.rules.specs.State as R
 use Rattle.rules.specs.Start.{good-policy, good-reject, handoff-size}
 use Rattle.rules.specs.Sound.{sound-fixed}
@@ -18,9 +18,9 @@ use Rattle.outbox.specs.View.{recordU, blankU}
 use Rattle.queue.specs.View.{recordQ, blankQ}
 use Rattle.peer_session.specs.declared.TerminalHandoff.{TerminalHandoff}
 use Rattle.peer_session.specs.declared.SessionState.{SessionState}
-use Rattle.peer_session.specs.View.{held, encode, handoffOf, handoff-length, stageOf}
+use Rattle.peer_session.specs.View.{held, encode, handoffOf, handoff-length}
 use Rattle.peer_session.specs.Sound.{Full}
-use Rattle.peer_session.proofs.Held.{Agree, agree}
+use Rattle.peer_session.proofs.Held.{agree}
 
 module _ {A : Type 0} where
   abbrev filled-up : ℕ → A → List A → List A

@@ -1,8 +1,8 @@
--- One call of an end: what its words and buffers show is what the rule book's outcome says, and it is one of the steps of proofs/Step.antt.
+-- One call of an end: what its words and buffers show is what the rule book's outcome says, and it is one of the steps of rules/proofs/Step.antt.
 -- Assumes nothing.
 use mathlib.Core.Path.{_≡_, refl, sym, ap, _∙_, subst}
 use mathlib.Core.Bool.{Bool, true, false}
-use mathlib.Core.List.{List, [], _∷_, _++_, map}
+use mathlib.Core.List.{List, [], _++_, map}
 use Prim.Native.Nat.{ℕ, _+_, _-_, _≤_, max}
 use native.Mathlib.Omega.{arith}
 use lib.ListN.{length, drop, replicate, length-append, length-replicate, length-drop}
@@ -12,27 +12,29 @@ use Rattle.rules.specs.declared.Answer.{Answer}
 use Rattle.rules.specs.declared.Answer.the-variants.{Done, Number, Flag, Prepared, Held, NotHeld, Refused}
 use Rattle.rules.specs.Lists.{Bytes, packed}
 use Rattle.rules.specs.Answers.{refused-by, refusal-number}
-use Rattle.rules.specs.State.{Unacked, State, body-of, frame-body, start-of}
+use Rattle.rules.specs.State.{State, body-of, frame-body, start-of}
 use Rattle.rules.specs.Events.{Event, handed, listed}
 use Rattle.rules.specs.Progress.{Outcome}
 use Rattle.rules.specs.Replay.{fetch}
 use Rattle.rules.specs.Calls.{Call, fetches, step}
-use Rattle.rules.specs.Buffers.{taken-by, over, where-taken, delivery-after, repacked, outbound-end, queue-reach, outbound-after, queue-after}
-use Rattle.history.specs.Shown.{pointed, hands-over, lists-data, lists-acks, record-in, is-refused, gives}
+use Rattle.rules.specs.Buffers.{taken-by, where-taken, delivery-after, repacked, outbound-end, queue-reach, outbound-after, queue-after}
+use Rattle.rules.specs.Answers.{record-in, is-refused}
+use Rattle.history.specs.Shown.{pointed, hands-over, lists-data, lists-acks, gives}
 use Rattle.history.specs.Contracts.{Buffers}
-use Rattle.history.specs.Histories.{Trace}
 use Rattle.history.specs.Demand.{part}
-use Rattle.history.proofs.Lists.{_∈_, All, Within}
-use Rattle.history.proofs.Model
-use Rattle.history.proofs.Model.{Session, fetchHeld, msgsHeld, numsHeld}
-use Rattle.history.proofs.Step
-use Rattle.history.proofs.Step.{Step, Effect, Sane}
+use Rattle.rules.specs.Lists.{_∈_, All}
+use Rattle.rules.proofs.Ranges.{Within}
+use Rattle.rules.proofs.Model
+use Rattle.rules.proofs.Model.{fetchHeld, msgsHeld, numsHeld}
+use Rattle.rules.proofs.Step
+use Rattle.rules.proofs.Step.{Step, Effect, Sane}
 use Rattle.history.proofs.StepLaws.{rises, held-frames}
-use Rattle.history.proofs.Core.{core, held-of}
-use Rattle.history.proofs.Reading.{gather, message-in, data-in, ack-in, read-handed, none-handed, read-acks, read-datas, read-fetch}
-use Rattle.history.proofs.Calls.{seen}
+use Rattle.rules.proofs.Core.{core, held-of}
+use Rattle.rules.proofs.Gathered.{gather, message-in, data-in, ack-in}
+use Rattle.history.proofs.Reading.{read-handed, none-handed, read-acks, read-datas, read-fetch}
+use Rattle.rules.proofs.RawCalls.{seen}
 use Rattle.history.proofs.Untouched.{left-bodies, left-queue}
-use Rattle.history.proofs.Viewed.{Viewed, Gate, passes, is-short, is-unknown, outcome-of, left-of, next, shown, lent-to}
+use Rattle.history.proofs.Viewed.{Viewed, Gate, passes, is-short, is-unknown, outcome-of, next, shown}
 
 -- ---- refusals
 

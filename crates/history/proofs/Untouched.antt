@@ -1,5 +1,5 @@
 -- A call that is not lent a store leaves its bodies as they are. Assumes nothing.
-use mathlib.Core.Path.{_≡_, refl, sym, ap, _∙_}
+use mathlib.Core.Path.{_≡_, refl, ap, _∙_}
 use mathlib.Core.Bool.{Bool, true, false, not, _&&_, true≢false}
 use mathlib.Core.List.{List, [], _∷_, _++_, map}
 use mathlib.Core.Option.{Option, none, some}
@@ -11,9 +11,9 @@ use Rattle.rules.specs.declared.Terms.{Terms}
 use Rattle.rules.specs.declared.Setup.{Setup}
 use Rattle.rules.specs.declared.Setup.the-variants.{None, Waiting, Started, Retired}
 use Rattle.rules.specs.declared.Answer.the-variants.{Done}
-use Rattle.rules.specs.Lists.{Bytes, if_then_else_, packed, empty}
+use Rattle.rules.specs.Lists.{packed, empty}
 use Rattle.rules.specs.State.{Frame, Unacked, Handoff, State, body-of}
-use Rattle.rules.specs.Progress.{_then_, Outcome, answers, _refuses_when_else_}
+use Rattle.rules.specs.Progress.{_then_, Outcome, answers}
 use Rattle.rules.specs.Setup.{prepare-in, prepare-channel}
 use Rattle.rules.specs.Acks.{sent, receive-keepalive, send-handoff, report-data, retries-full, report-ack, report}
 use Rattle.rules.specs.Commits.{prepare-commit, releases, release, after-release, release-by, persist-by, past-last-number, notify-committed, complete-commit}
@@ -21,7 +21,7 @@ use Rattle.rules.specs.Replay.{too-soon, connectivity}
 use Rattle.rules.specs.Calls.{Call, sends, gets-data, gets-ack, gets-keepalive, is-ready, accepts, rejects, prepares-channel, commands, prepares, completes, connects, reports, fetches, retires, restores, step}
 use Rattle.rules.specs.Buffers.{taken-by}
 use Rattle.rules.proofs.Lists.{if-rule}
-use Rattle.history.proofs.Calls.{refuses-rule}
+use Rattle.rules.proofs.RawCalls.{refuses-rule}
 use Rattle.history.proofs.Independent.{Along, along, step-q}
 
 -- ---- the outbound store

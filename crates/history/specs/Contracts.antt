@@ -19,7 +19,7 @@ use Rattle.peer_session.specs.View.{held}
 use Rattle.peer_session.specs.Sound.{Full}
 use Rattle.session.specs.declared.Returned.{Returned}
 use Rattle.session.specs.declared.Told.{Told}
-use Rattle.session.specs.Promise.{Exit, exit, lent, unchanged, promise, Called, CalledWithList, CalledWithOutbound, CalledWithStores, CalledWithOutboundAlone, CalledWithStoresAlone, CalledAlone, ToldWithList, Answered}
+use Rattle.session.specs.Promise.{exit, lent, unchanged, promise, Called, CalledWithList, CalledWithOutbound, CalledWithStores, CalledWithOutboundAlone, CalledWithStoresAlone, CalledAlone, ToldWithList, Answered}
 use Rattle.starts.specs.declared.Reliable as Code
 use Rattle.starts.specs.Started.{short-record, Started}
 use Rattle.starts.specs.Records.{reliableOf}
