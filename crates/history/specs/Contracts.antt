@@ -68,43 +68,72 @@ Starts a x =
 
 -- ---- the other calls, by what they are lent. What a call is not lent, or only to read, is as it was
 
+-- only the answer is new
+abbrev pub only-answers : Buffers → Session → Answer → Left
+only-answers l x a = record { session = x; answer = a; events = 0; list = l .list; delivery = l .delivery }
+
+-- what a call returned
 abbrev returned : Left → Returned
 returned z = record { session = z .session .code; answer = z .answer; events = z .events }
 
 abbrev told : Left → Told
 told z = record { answer = z .answer; events = z .events }
 
--- only the answer is new
-abbrev pub only-answers : Buffers → Session → Answer → Left
-only-answers l x a = record { session = x; answer = a; events = 0; list = l .list; delivery = l .delivery }
-
+-- the event list and the delivery buffer, the struct and the two stores, before and after
 module _ (c : Call) (l : Buffers) (x : Session) (z : Left) where
+  abbrev a : List ℕ
+  a = l .list
+
+  abbrev d : Bytes
+  d = l .delivery
+
+  abbrev s : SessionState
+  s = x .code
+
+  abbrev o : Bytes
+  o = x .outbound
+
+  abbrev q : Bytes
+  q = x .queue
+
+  abbrev a′ : List ℕ
+  a′ = z .list
+
+  abbrev d′ : Bytes
+  d′ = z .delivery
+
+  abbrev o′ : Bytes
+  o′ = z .session .outbound
+
+  abbrev q′ : Bytes
+  q′ = z .session .queue
+
   abbrev pub Takes-all : Type 0
-  Takes-all = Called c (x .code) (lent (l .list) (l .delivery) (x .outbound) (x .queue)) (returned z) (lent (z .list) (z .delivery) (z .session .outbound) (z .session .queue))
+  Takes-all = Called c s (lent a d o q) (returned z) (lent a′ d′ o′ q′)
 
   abbrev pub Takes-list-and-stores : Type 0
-  Takes-list-and-stores = CalledWithStores c (x .code) (l .list) (x .outbound) (x .queue) (returned z) (z .list) (z .session .outbound) (z .session .queue) × (z .delivery ≡ l .delivery)
+  Takes-list-and-stores = CalledWithStores c s a o q (returned z) a′ o′ q′ × (d′ ≡ d)
 
   abbrev pub Takes-list-and-outbound : Type 0
-  Takes-list-and-outbound = CalledWithOutbound c (x .code) (l .list) (x .outbound) (returned z) (z .list) (z .session .outbound) × (z .delivery ≡ l .delivery) × (z .session .queue ≡ x .queue)
+  Takes-list-and-outbound = CalledWithOutbound c s a o (returned z) a′ o′ × (d′ ≡ d) × (q′ ≡ q)
 
   abbrev pub Takes-list : Type 0
-  Takes-list = CalledWithList c (x .code) (l .list) (returned z) (z .list) × (z .delivery ≡ l .delivery) × (z .session .outbound ≡ x .outbound) × (z .session .queue ≡ x .queue)
+  Takes-list = CalledWithList c s a (returned z) a′ × (d′ ≡ d) × (o′ ≡ o) × (q′ ≡ q)
 
   abbrev pub Takes-list-to-tell : Type 0
-  Takes-list-to-tell = ToldWithList c (x .code) (l .list) (told z) (z .list) × (z .session ≡ x) × (z .delivery ≡ l .delivery)
+  Takes-list-to-tell = ToldWithList c s a (told z) a′ × (z .session ≡ x) × (d′ ≡ d)
 
   abbrev pub Takes-stores : Type 0
-  Takes-stores = CalledWithStoresAlone c (x .code) (x .outbound) (x .queue) (returned z) (z .session .outbound) (z .session .queue) × (z .list ≡ l .list) × (z .delivery ≡ l .delivery)
+  Takes-stores = CalledWithStoresAlone c s o q (returned z) o′ q′ × (a′ ≡ a) × (d′ ≡ d)
 
   abbrev pub Takes-outbound : Type 0
-  Takes-outbound = CalledWithOutboundAlone c (x .code) (x .outbound) (returned z) (z .session .outbound) × (z .list ≡ l .list) × (z .delivery ≡ l .delivery) × (z .session .queue ≡ x .queue)
+  Takes-outbound = CalledWithOutboundAlone c s o (returned z) o′ × (a′ ≡ a) × (d′ ≡ d) × (q′ ≡ q)
 
   abbrev pub Takes-nothing : Type 0
-  Takes-nothing = CalledAlone c (x .code) (returned z) × (z .list ≡ l .list) × (z .delivery ≡ l .delivery) × (z .session .outbound ≡ x .outbound) × (z .session .queue ≡ x .queue)
+  Takes-nothing = CalledAlone c s (returned z) × (a′ ≡ a) × (d′ ≡ d) × (o′ ≡ o) × (q′ ≡ q)
 
   abbrev pub Only-answers : Type 0
-  Only-answers = Answered c (x .code) (z .answer) × (z ≡ only-answers l x (z .answer))
+  Only-answers = Answered c s (z .answer) × (z ≡ only-answers l x (z .answer))
 
 -- `fetching::find` takes the outbound store and only answers
 abbrev pub AnsweredWithOutbound : Call → SessionState → Bytes → Answer → Type 0
