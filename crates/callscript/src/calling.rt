@@ -2,10 +2,20 @@
 use crate::parts;
 use crate::reading::Call;
 use crate::reading::Opening;
+use crate::records::Handoff;
+use crate::records::Record;
 use peer_session::SessionState;
 use rules::Refusal;
 use session::Returned;
 use starts::Reliable;
+
+fn reliable(r: Record) -> Reliable {
+    Reliable {
+        message_number: r.message_number,
+        remote_number: r.remote,
+        disposition: r.disposition,
+    }
+}
 
 pub fn start(
     o: Opening,
@@ -16,13 +26,8 @@ pub fn start(
     queue: &mut [u8],
 ) -> Returned {
     let r = o.record;
-    let record = Reliable {
-        message_number: r.message_number,
-        remote_number: r.remote,
-        disposition: r.disposition,
-    };
     starts::start(
-        record,
+        reliable(r),
         parts::first_words(numbers, r.count),
         parts::first_words(lengths, r.count),
         parts::between(body, r.from, r.to),
@@ -30,6 +35,35 @@ pub fn start(
         text::front(body, o.reject),
         outbound,
         queue,
+    )
+}
+
+fn restore(
+    s: SessionState,
+    r: Record,
+    h: Handoff,
+    numbers: &[u64; 257],
+    lengths: &[u64; 257],
+    body: &[u8],
+    outbound: &mut [u8],
+) -> Returned {
+    let given = restores::Handoff {
+        present: h.present,
+        id: h.id,
+        number: h.number,
+        sent: h.sent,
+        acknowledged: h.acknowledged,
+    };
+    let end = std::num::wrapping_add_usize(r.to, h.len);
+    restores::restore(
+        s,
+        outbound,
+        reliable(r),
+        parts::first_words(numbers, r.count),
+        parts::first_words(lengths, r.count),
+        parts::between(body, r.from, r.to),
+        given,
+        parts::between(body, r.to, end),
     )
 }
 
@@ -49,18 +83,6 @@ fn keepalive(s: SessionState, list: &mut [u64]) -> Returned {
         session: s,
         answer: a,
         events: t.events,
-    }
-}
-
-// Whether the call is one of those that `call` makes.
-pub fn is_here(c: Call) -> bool {
-    match c {
-        Call::Fetch(_) => false,
-        Call::Restore {
-            record: _,
-            handoff: _,
-        } => false,
-        _ => true,
     }
 }
 
@@ -116,13 +138,14 @@ fn receive(
         Call::Ack(n) => acks::receive_ack(s, list, outbound, queue, n),
         Call::Keepalive => keepalive(s, list),
         Call::Ready { status, mode } => {
-            receiving::consumer_ready(s, list, delivery, outbound, queue, status, mode)
+            consumers::consumer_ready(s, list, delivery, outbound, queue, status, mode)
         }
         _ => set_up(c, s, body, list, outbound, queue),
     }
 }
 
-pub fn call(
+// What is sent, committed and reported.
+fn send(
     c: Call,
     s: SessionState,
     body: &[u8],
@@ -153,5 +176,24 @@ pub fn call(
             accepted,
         } => acks::report(s, list, what, number, accepted),
         _ => receive(c, s, body, list, delivery, outbound, queue),
+    }
+}
+
+pub fn call(
+    c: Call,
+    s: SessionState,
+    numbers: &[u64; 257],
+    lengths: &[u64; 257],
+    body: &[u8],
+    list: &mut [u64],
+    delivery: &mut [u8],
+    outbound: &mut [u8],
+    queue: &mut [u8],
+) -> Returned {
+    match c {
+        Call::Restore { record, handoff } => {
+            restore(s, record, handoff, numbers, lengths, body, outbound)
+        }
+        _ => send(c, s, body, list, delivery, outbound, queue),
     }
 }

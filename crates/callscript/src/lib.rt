@@ -92,9 +92,22 @@ fn answer_start(
     next(u, r.session, n)
 }
 
+fn answer_fetch(number: u64, outbound: &[u8; 65536], out: &mut [u8; 65536], t: Script) -> Script
+    requires { ⌜ t .used ≤ 65536 ⌝ }
+    ensures { λ r. ⌜ r .used ≤ 65536 ⌝ }
+{
+    let s = t.session;
+    let a = fetches::find(s, outbound, number);
+    let body = fetches::fetch(s, outbound, number);
+    let n = printing::print_fetch(out, t.used, a, body);
+    next(t, s, n)
+}
+
 fn answer_call(
     c: Call,
     word: &[u8],
+    numbers: &[u64; 257],
+    lengths: &[u64; 257],
     body: &[u8; 150000],
     list: &mut [u64; 4096],
     delivery: &mut [u8; 49152],
@@ -106,10 +119,21 @@ fn answer_call(
     requires { ⌜ t .used ≤ 65536 ⌝ }
     ensures { λ r. ⌜ r .used ≤ 65536 ⌝ }
 {
-    if !calling::is_here(c) {
-        return answer_wrong(out, t);
+    if let Call::Fetch(number) = c {
+        return answer_fetch(number, outbound, out, t);
     }
-    let r = calling::call(c, t.session, body, list, delivery, outbound, queue);
+    let s = t.session;
+    let r = calling::call(
+        c,
+        s,
+        numbers,
+        lengths,
+        body,
+        list,
+        delivery,
+        outbound,
+        queue,
+    );
     let a = r.answer;
     let n = printing::print_call(out, t.used, word, a, r.events, list, delivery, outbound);
     next(t, r.session, n)
@@ -148,6 +172,8 @@ fn word_of(line: &[u8], size: usize) -> &[u8] {
 fn answer_session(
     l: Line,
     word: &[u8],
+    numbers: &[u64; 257],
+    lengths: &[u64; 257],
     body: &[u8; 150000],
     list: &mut [u64; 4096],
     delivery: &mut [u8; 49152],
@@ -163,7 +189,19 @@ fn answer_session(
         return answer_wrong(out, t);
     }
     match l {
-        Line::Call(c) => answer_call(c, word, body, list, delivery, outbound, queue, out, t),
+        Line::Call(c) => answer_call(
+            c,
+            word,
+            numbers,
+            lengths,
+            body,
+            list,
+            delivery,
+            outbound,
+            queue,
+            out,
+            t,
+        ),
         Line::State => answer_state(outbound, queue, out, t),
         Line::Generation(n) => set_generation(t, n),
         _ => answer_wrong(out, t),
@@ -190,12 +228,23 @@ fn answer(
         return answer_start(o, numbers, lengths, body, list, outbound, queue, out, t);
     }
     let word = word_of(line, t.size);
-    answer_session(l, word, body, list, delivery, outbound, queue, out, t)
+    answer_session(
+        l,
+        word,
+        numbers,
+        lengths,
+        body,
+        list,
+        delivery,
+        outbound,
+        queue,
+        out,
+        t,
+    )
 }
 
 fn answer_chunk(
-    chunk: &[u8; 65536],
-    n: usize,
+    chunk: &[u8],
     line: &mut [u8; 300000],
     numbers: &mut [u64; 257],
     lengths: &mut [u64; 257],
@@ -210,11 +259,10 @@ fn answer_chunk(
     requires { ⌜ t .used ≤ 65536 ⌝ }
     ensures { λ r. ⌜ r .used ≤ 65536 ⌝ }
 {
-    let some = text::front(chunk, n);
     let mut r = t;
     let mut at = 0;
-    while at < some.len() {
-        let q = text::gather_line(some, at, line, r.size);
+    while at < chunk.len() {
+        let q = text::gather_line(chunk, at, line, r.size);
         r.size = q.size;
         if q.whole {
             r = answer(
@@ -269,6 +317,46 @@ fn answer_last(
     r.used
 }
 
+// Answers the lines of standard input that have an end.
+fn answer_input(
+    chunk: &mut [u8; 65536],
+    line: &mut [u8; 300000],
+    numbers: &mut [u64; 257],
+    lengths: &mut [u64; 257],
+    body: &mut [u8; 150000],
+    list: &mut [u64; 4096],
+    delivery: &mut [u8; 49152],
+    outbound: &mut [u8; 65536],
+    queue: &mut [u8; 32768],
+    out: &mut [u8; 65536],
+) -> Script
+    ensures { λ r. ⌜ r .used ≤ 65536 ⌝ }
+{
+    let mut t = begin();
+    let mut turns = u64::MAX;
+    while turns > 0 {
+        let n = lines::read_some(chunk);
+        if n == 0 {
+            break;
+        }
+        t = answer_chunk(
+            text::front(chunk, n),
+            line,
+            numbers,
+            lengths,
+            body,
+            list,
+            delivery,
+            outbound,
+            queue,
+            out,
+            t,
+        );
+        turns -= 1;
+    }
+    t
+}
+
 // Answers all of standard input.
 pub fn run() {
     let mut chunk = io::large_buffer();
@@ -281,29 +369,18 @@ pub fn run() {
     let mut outbound = [0u8; 65536];
     let mut queue = [0u8; 32768];
     let mut out = io::large_buffer();
-    let mut t = begin();
-    let mut turns = u64::MAX;
-    while turns > 0 {
-        let n = lines::read_some(&mut chunk);
-        if n == 0 {
-            break;
-        }
-        t = answer_chunk(
-            &chunk,
-            n,
-            &mut line,
-            &mut numbers,
-            &mut lengths,
-            &mut body,
-            &mut list,
-            &mut delivery,
-            &mut outbound,
-            &mut queue,
-            &mut out,
-            t,
-        );
-        turns -= 1;
-    }
+    let t = answer_input(
+        &mut chunk,
+        &mut line,
+        &mut numbers,
+        &mut lengths,
+        &mut body,
+        &mut list,
+        &mut delivery,
+        &mut outbound,
+        &mut queue,
+        &mut out,
+    );
     let used = answer_last(
         &line,
         &mut numbers,

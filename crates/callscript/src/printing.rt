@@ -66,39 +66,45 @@ fn print_commit(out: &mut [u8; 65536], used: usize, c: PreparedCommit) -> usize
     print_field(out, m, c.remote)
 }
 
-// The part of the outbound store that a fetch names.
-fn print_held(
-    out: &mut [u8; 65536],
-    used: usize,
-    start: usize,
-    len: usize,
-    outbound: &[u8],
-) -> usize
-    requires { ⌜ used ≤ 65536 ⌝ }
-    ensures { λ r. ⌜ r ≤ 65536 ⌝ }
-{
-    let n = print_field(out, used, start as u64);
-    let m = print_field(out, n, len as u64);
-    print_body(out, m, parts::part(outbound, start as u64, len as u64))
-}
-
-fn print_answer(
-    out: &mut [u8; 65536],
-    used: usize,
-    a: Answer,
-    events: usize,
-    outbound: &[u8],
-) -> usize
+fn print_answer(out: &mut [u8; 65536], used: usize, a: Answer, events: usize) -> usize
     requires { ⌜ used ≤ 65536 ⌝ }
     ensures { λ r. ⌜ r ≤ 65536 ⌝ }
 {
     match a {
         Answer::Refused(x) => print_refusal(out, used, answers::refusal_number(x), events),
         Answer::Prepared(c) => print_commit(out, used, c),
-        Answer::Held { start, len } => print_held(out, used, start, len, outbound),
-        Answer::NotHeld => lines::print_bytes(out, used, b" none"),
         _ => print_count(out, used, answers::answer_value(a), events),
     }
+}
+
+// Where the body lies in the outbound store, and the body.
+fn print_held(out: &mut [u8; 65536], used: usize, start: usize, len: usize, body: &[u8]) -> usize
+    requires { ⌜ used ≤ 65536 ⌝ }
+    ensures { λ r. ⌜ r ≤ 65536 ⌝ }
+{
+    let n = print_field(out, used, start as u64);
+    let m = print_field(out, n, len as u64);
+    print_body(out, m, body)
+}
+
+fn print_found(out: &mut [u8; 65536], used: usize, a: Answer, body: &[u8]) -> usize
+    requires { ⌜ used ≤ 65536 ⌝ }
+    ensures { λ r. ⌜ r ≤ 65536 ⌝ }
+{
+    match a {
+        Answer::Held { start, len } => print_held(out, used, start, len, body),
+        Answer::NotHeld => lines::print_bytes(out, used, b" none"),
+        _ => print_answer(out, used, a, 0),
+    }
+}
+
+pub fn print_fetch(out: &mut [u8; 65536], used: usize, a: Answer, body: &[u8]) -> usize
+    requires { ⌜ used ≤ 65536 ⌝ }
+    ensures { λ r. ⌜ r ≤ 65536 ⌝ }
+{
+    let n = lines::print_bytes(out, used, b"fetch");
+    let m = print_found(out, n, a, body);
+    lines::print_byte(out, m, 10)
 }
 
 // The body that an event of this code points to.
@@ -182,7 +188,7 @@ pub fn print_call(
     ensures { λ r. ⌜ r ≤ 65536 ⌝ }
 {
     let n = lines::print_bytes(out, used, word);
-    let m = print_answer(out, n, a, events, outbound);
+    let m = print_answer(out, n, a, events);
     let k = lines::print_byte(out, m, 10);
     print_events(out, k, list, events, delivery, outbound)
 }

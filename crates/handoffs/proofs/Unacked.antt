@@ -96,25 +96,7 @@ carries-at n b at m (u ∷ us) s r =
         k
         ∙ ap (λ (z : Bytes). any (carriesBody n b) (cut lenU unacked us z)) (sym (drop-drop (u .len) at s))
 
-place-within : (n at : ℕ) (us : List Unacked) (a k : ℕ) → placeU n at us ≡ At a k → a + k ≤ at + total lenU us
-unfolding placeU total
-place-within n at [] a k e = let z : _≡_ {A = ℕ} 0 1 = cc in absurd (omega arith)
-place-within n at (u ∷ us) a k e = go (eqb (u .number) n) (place-within n (at + u .len) us a k) e
-  where
-    go : (t : Bool) → (placeU n (at + u .len) us ≡ At a k → a + k ≤ at + u .len + total lenU us) → (if t then At at (u .len) else placeU n (at + u .len) us) ≡ At a k → a + k ≤ at + (u .len + total lenU us)
-    go true g f =
-        let p : at ≡ a = cc in
-        let q : u .len ≡ k = cc in
-        omega arith
-    go false g f = omega (arith, g f)
-
 module _ (n : ℕ) (x : Outbox) (s : Bytes) (sound : soundOutbox x ≡ true) {p : Place} (is : p ≡ placeU n 0 (usedU x)) where
-  pub part-fits : (a k : ℕ) → ExactOutbox x (length s) → p ≡ At a k → (a ≤ length s) × (k ≤ length s - a)
-  part-fits a k ex e =
-      let w : a + k ≤ 0 + total lenU (usedU x) = place-within n 0 (usedU x) a k (sym is ∙ e) in
-      let i : endU x ≤ 65536 = ex .small in
-      let j : 65536 ≤ length s = ex .room in (omega arith, omega arith)
-
   lies : (b : Bytes) → liesAt p s b ≡ any (carriesBody n b) (unackedOf x s)
   unfolding unackedOf
   lies b = ap (λ (y : Place). liesAt y s b) is ∙ carries-at n b 0 0 (usedU x) s (sound-facts x sound .order)

@@ -65,14 +65,6 @@ fn unacked_to(o: Outbox, number: u64) -> bool
     n <= number
 }
 
-fn part(s: &[u8], start: usize, len: usize) -> &[u8]
-    requires { ⌜ (start ≤ length (now s)) × (len ≤ length (now s) - start) ⌝ }
-    ensures { λ r. ⌜ now r ≡ take len (drop start (now (s .entry))) ⌝ }
-{
-    let end = start + len;
-    &s[start..end]
-}
-
 // Whether an unacked message has a number and a body.
 fn carried(o: Outbox, outbound: &[u8], number: u64, body: &[u8]) -> bool
     requires { ⌜ (soundOutbox o ≡ true) × ExactOutbox o (length (now outbound)) ⌝ }
@@ -80,7 +72,7 @@ fn carried(o: Outbox, outbound: &[u8], number: u64, body: &[u8]) -> bool
 {
     let p = outbox::locate(o, number);
     match p {
-        Place::At { start, len } => text::same_bytes(part(outbound, start, len), body),
+        Place::At { start, len } => text::same_bytes(stores::part(outbound, start, len), body),
         Place::Nowhere => false,
     }
 }

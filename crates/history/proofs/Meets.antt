@@ -32,6 +32,7 @@ use Rattle.session.proofs.Entry.{Entered, entered}
 use Rattle.starts.specs.Started.{messagesOf, short-record, begins, startPromise}
 use Rattle.starts.specs.Records.{reliableOf}
 use Rattle.starts.proofs.Lasting.{starts-sound}
+use Rattle.restores.specs.Restored.{handoffGiven, restorePromise}
 use Rattle.history.specs.Shown.{read-words}
 use Rattle.history.specs.Contracts.{Session, Buffers, Left, shown-by, Opening, Starts, only-answers, Takes-all, Restores, Meets}
 use Rattle.rules.proofs.RawCalls.{or-left, or-right}
@@ -105,11 +106,14 @@ module _ (l : Buffers) (x : Session) (z : Left) (w : Whole x) where
       at-short false e = at-code (wrong-code c) e refl
 
   restore-fares : (r : Reliable) (h : Option Handoff) → Restores r h l x z → Fared (restores r h)
+  unfolding restorePromise
   restore-fares r h m = go (short-record (m .numbers) (m .lengths) (m .bodies)) (m .does (l .list) (l .delivery) (x .queue) (w .queue))
     where
-      go : (b : Bool) → Found (z .session) (z .answer) (z .events) (lent (l .list) (l .delivery) (z .session .outbound) (x .queue)) ≡ (if b then unchanged ShortBuffer (x .code) at else promise (restores (reliableOf (m .given) (m .numbers) (m .lengths) (m .bodies)) h) (x .code) at) → Fared (restores r h)
+      go : (b : Bool)
+          → Found (z .session) (z .answer) (z .events) (lent (l .list) (l .delivery) (z .session .outbound) (x .queue))
+          ≡ (if b then unchanged ShortBuffer (x .code) at else promise (restores (reliableOf (m .given) (m .numbers) (m .lengths) (m .bodies)) (handoffGiven (m .handoff) (m .body))) (x .code) at) → Fared (restores r h)
       go true e = (is-short, unlent l x z _ e (m .list) (m .delivery) refl (m .queue) ∙ as-it-was ShortBuffer, λ r. absurd (true≢false r))
-      go false e = fares (restores r h) (unlent l x z _ e (m .list) (m .delivery) refl (m .queue) ∙ ap (λ (y : Reliable). promise (restores y h) (x .code) at) (m .is))
+      go false e = fares (restores r h) (unlent l x z _ e (m .list) (m .delivery) refl (m .queue) ∙ (λ i. promise (restores (m .record-is i) (m .handoff-is i)) (x .code) at))
 
   meets-fares : (c : Call) → Meets c l x z → Fared c
   meets-fares (sends b) m = fares (sends b) (unlent l x z _ (m .0 (l .delivery) (x .queue) (w .queue)) refl (m .1) refl (m .2))

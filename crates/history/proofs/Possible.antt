@@ -2,7 +2,7 @@
 use mathlib.Core.Path.{_≡_, refl, sym, ap, _∙_, subst}
 use mathlib.Core.Bool.{Bool, true, false}
 use mathlib.Core.List.{List, [], _∷_, _++_, map}
-use mathlib.Core.Option.{Option}
+use mathlib.Core.Option.{Option, none, some}
 use Prim.Native.Nat.{ℕ, _≤_}
 use lib.ListN.{length, take, drop, length-append, length-map}
 use lib.Dec.{ltb}
@@ -31,7 +31,11 @@ use Rattle.session.proofs.Promises.{promise-short, promise-code, promise-follow
 use Rattle.session.proofs.Entry.{Entered, entered}
 use Rattle.starts.specs.Started.{messagesOf, short-record}
 use Rattle.starts.specs.Records.{reliableOf}
-use Rattle.history.specs.Contracts.{Session, Buffers, Left, only-answers, Takes-all, Takes-list-and-stores, Takes-list-and-outbound, Takes-list, Takes-list-to-tell, Takes-stores, Takes-outbound, Takes-nothing, Only-answers, AnsweredWithOutbound, Restores, Meets}
+use Rattle.starts.specs.declared.Reliable as Code
+use Rattle.restores.specs.declared.Handoff as Given
+use Rattle.restores.specs.Restored.{handoffGiven, restorePromise}
+use Rattle.fetches.specs.Fetched.{AnsweredWithOutbound}
+use Rattle.history.specs.Contracts.{Session, Buffers, Left, only-answers, Takes-all, Takes-list-and-stores, Takes-list-and-outbound, Takes-list, Takes-list-to-tell, Takes-stores, Takes-outbound, Takes-nothing, Only-answers, Restores, Meets}
 use Rattle.history.proofs.Viewed.{view}
 use Rattle.history.proofs.Listed.{length-listed}
 use Rattle.history.proofs.Independent.{Alike, Beside, beside-alike, queue-beside, stores-alike}
@@ -180,6 +184,20 @@ not-short ms =
     let p : ltb (length ks) (length ns) ≡ false = le-ltb (length ks) (length ns) (omega (arith, length-map ms message-number, length-map ms message-size)) in
     let q : ltb (length (packed message-body ms)) (total itself (take (length ns) ks)) ≡ false = le-ltb (length (packed message-body ms)) (total itself (take (length ns) ks)) (omega (arith, size ms)) in
     rw (p, q) refl
+
+-- ---- a handoff as a struct and a slice
+
+abbrev handoff-struct : Option Handoff → Given.Handoff
+handoff-struct none = record { id = 0; number = 0; sent = false; acknowledged = false; present = false }
+handoff-struct (some h) = record { id = h .id; number = h .number; sent = h .sent; acknowledged = h .acknowledged; present = true }
+
+abbrev handoff-body : Option Handoff → Bytes
+handoff-body none = []
+handoff-body (some h) = h .body
+
+handoff-back : (h : Option Handoff) → handoffGiven (handoff-struct h) (handoff-body h) ≡ h
+handoff-back none = refl
+handoff-back (some h) = refl
 
 -- ---- a result
 
@@ -337,19 +355,25 @@ module _ (l : Buffers) (x : Session) (w : Whole x) where
       ∙ sym (with-outbound-alone (fetches n) s (w .sound) (x .full) refl a (l .list) d (l .delivery) (x .outbound) q (x .queue) (w .outbound, h) all-long)
 
   restored-only : (r : Reliable) (h : Option Handoff) → Restores r h l x (result (restores r h))
-  unfolding taken-by
+  unfolding taken-by restorePromise
   restored-only r h =
       let o = outbound-only (restores r h) refl in
+      let given : Code.Reliable = record { «message_number» = r .next; «remote_number» = r .remote; disposition = r .disposition } in
+      let ns : List ℕ = map message-number (r .unacked) in
+      let ks : List ℕ = map message-size (r .unacked) in
+      let b : Bytes = packed message-body (r .unacked) in
+      let is : reliableOf given ns ks b ≡ r = ap (λ (ms : List Message). record { next = r .next; remote = r .remote; disposition = r .disposition; unacked = ms }) (messages-back (r .unacked)) in
+      let hs : handoffGiven (handoff-struct h) (handoff-body h) ≡ h = handoff-back h in
       record {
-        given = record { «message_number» = r .next; «remote_number» = r .remote; disposition = r .disposition };
-        numbers = map message-number (r .unacked);
-        lengths = map message-size (r .unacked);
-        bodies = packed message-body (r .unacked);
-        is = ap (λ (ms : List Message). record { next = r .next; remote = r .remote; disposition = r .disposition; unacked = ms }) (messages-back (r .unacked));
-        does = λ a d q k.
-            o .0 a d q k
-            ∙ ap (λ (ms : List Message). promise (restores (record { next = r .next; remote = r .remote; disposition = r .disposition; unacked = ms }) h) s (lent a d (x .outbound) q)) (sym (messages-back (r .unacked)))
-            ∙ ap (λ (b : Bool). if b then unchanged ShortBuffer s (lent a d (x .outbound) q) else promise (restores (reliableOf (record { «message_number» = r .next; «remote_number» = r .remote; disposition = r .disposition }) (map message-number (r .unacked)) (map message-size (r .unacked)) (packed message-body (r .unacked))) h) s (lent a d (x .outbound) q)) (sym (not-short (r .unacked)));
+        given = given;
+        numbers = ns;
+        lengths = ks;
+        bodies = b;
+        handoff = handoff-struct h;
+        body = handoff-body h;
+        record-is = is;
+        handoff-is = hs;
+        does = λ a d q k. o .0 a d q k ∙ (λ i. promise (restores (sym is i) (sym hs i)) s (lent a d (x .outbound) q)) ∙ ap (λ (y : Bool). if y then unchanged ShortBuffer s (lent a d (x .outbound) q) else promise (restores (reliableOf given ns ks b) (handoffGiven (handoff-struct h) (handoff-body h))) s (lent a d (x .outbound) q)) (sym (not-short (r .unacked)));
         list = o .1;
         delivery = o .2;
         queue = o .3;

@@ -1,20 +1,20 @@
 -- "Store bytes past the last body are 0", after every call of a history: each store is its bodies, packed, and then 0. Assumes nothing.
 use mathlib.Core.Path.{_≡_, refl, sym, ap, _∙_, subst}
 use mathlib.Core.Bool.{Bool, true, false}
-use mathlib.Core.List.{List, [], _++_}
+use mathlib.Core.List.{_++_}
 use Prim.Native.Nat.{ℕ, _+_, _-_, _≤_, max}
 use native.Mathlib.Omega.{arith}
 use lib.ListN.{length, drop, replicate, replicate-append-replicate}
 use lib.Seq.{drop-append-add}
 use Rattle.stores.proofs.Packs.{drop-replicate}
-use Rattle.rules.specs.Lists.{Bytes, if_then_else_, packed}
+use Rattle.rules.specs.Lists.{Bytes, packed}
 use Rattle.rules.specs.State.{State, body-of, frame-body}
 use Rattle.rules.specs.Receiving.{joins-queue}
 use Rattle.rules.specs.Start.{new}
 use Rattle.rules.specs.Calls.{Call, sends, gets-data, gets-ack, gets-keepalive, is-ready, accepts, rejects, prepares-channel, commands, prepares, completes, connects, reports, fetches, retires, restores, step}
 use Rattle.rules.specs.Buffers.{taken-by, where-taken, repacked, queue-end, queue-reach, outbound-after, queue-after}
 use Rattle.rules.proofs.Lists.{if-rule, length-packed}
-use Rattle.history.specs.Contracts.{Session, Buffers, Opening}
+use Rattle.history.specs.Contracts.{Buffers, Opening}
 use Rattle.history.specs.Histories.{End, left, right, History, opening, turn, session, Legal}
 use Rattle.history.proofs.Viewed.{Viewed, view, Gate, passes, is-short, is-unknown, next}
 use Rattle.history.proofs.Untouched.{left-bodies, left-queue}

@@ -1,28 +1,27 @@
 -- One exported call as a host makes it: what the host holds and lends, what it finds afterwards, and that the two are as the contract of the
 -- function says, the one that its `ensures` cites (docs/PROOFS.md, "The calls"). Assumes nothing.
-use Prim.Native.Nat.{ℕ, _≤_}
+use Prim.Native.Nat.{ℕ}
 use mathlib.Core.Path.{_≡_}
 use mathlib.Core.List.{List, []}
 use mathlib.Core.Option.{Option}
-use lib.ListN.{length}
 use Rattle.rules.specs.declared.Policy.{Policy}
 use Rattle.rules.specs.declared.Answer.{Answer}
 use Rattle.rules.specs.declared.Answer.the-variants.{Done}
-use Rattle.rules.specs.declared.Refusal.the-variants.{ShortBuffer}
-use Rattle.rules.specs.Lists.{Bytes, if_then_else_}
-use Rattle.rules.specs.Limits.{queue-bytes}
+use Rattle.rules.specs.Lists.{Bytes}
 use Rattle.rules.specs.State.{Handoff}
 use Rattle.rules.specs.Start.{Reliable}
 use Rattle.rules.specs.Calls.{Call, sends, gets-data, gets-ack, gets-keepalive, is-ready, accepts, rejects, prepares-channel, commands, prepares, completes, connects, reports, fetches, retires, restores}
 use Rattle.peer_session.specs.declared.SessionState.{SessionState}
-use Rattle.peer_session.specs.View.{held}
 use Rattle.peer_session.specs.Sound.{Full}
 use Rattle.session.specs.declared.Returned.{Returned}
 use Rattle.session.specs.declared.Told.{Told}
-use Rattle.session.specs.Promise.{exit, lent, unchanged, promise, Called, CalledWithList, CalledWithOutbound, CalledWithStores, CalledWithOutboundAlone, CalledWithStoresAlone, CalledAlone, ToldWithList, Answered}
+use Rattle.session.specs.Promise.{lent, Called, CalledWithList, CalledWithOutbound, CalledWithStores, CalledWithOutboundAlone, CalledWithStoresAlone, CalledAlone, ToldWithList, Answered}
 use Rattle.starts.specs.declared.Reliable as Code
-use Rattle.starts.specs.Started.{short-record, Started}
+use Rattle.starts.specs.Started.{Started}
 use Rattle.starts.specs.Records.{reliableOf}
+use Rattle.fetches.specs.Fetched.{AnsweredWithOutbound}
+use Rattle.restores.specs.declared.Handoff as Given
+use Rattle.restores.specs.Restored.{handoffGiven, Restored}
 use Rattle.history.specs.Shown.{Shown, read-words}
 
 -- ---- what a host has in hand
@@ -135,27 +134,21 @@ module _ (c : Call) (l : Buffers) (x : Session) (z : Left) where
   abbrev pub Only-answers : Type 0
   Only-answers = Answered c s (z .answer) × (z ≡ only-answers l x (z .answer))
 
--- `fetching::find` takes the outbound store and only answers
-abbrev pub AnsweredWithOutbound : Call → SessionState → Bytes → Answer → Type 0
-AnsweredWithOutbound c s o a = (l : List ℕ) (d q : Bytes) → queue-bytes ≤ length q → exit (held s) a 0 (lent l d o q) ≡ promise c s (lent l d o q)
+  -- of `fetches::find`, which takes the outbound store to read
+  abbrev pub Finds : Type 0
+  Finds = AnsweredWithOutbound c s o (z .answer) × (z ≡ only-answers l x (z .answer))
 
-abbrev pub Finds : ℕ → Buffers → Session → Left → Type 0
-Finds n l x z = AnsweredWithOutbound (fetches n) (x .code) (x .outbound) (z .answer) × (z ≡ only-answers l x (z .answer))
-
--- `restores::restore` takes its record's messages as three slices
-abbrev pub Restored : Code.Reliable → List ℕ → List ℕ → Bytes → Option Handoff → SessionState → Bytes → Returned → Bytes → Type 0
-Restored r ns ks b h s o x o′ =
-    (l : List ℕ) (d q : Bytes) → queue-bytes ≤ length q
-    → exit (held (x .session)) (x .answer) (x .events) (lent l d o′ q)
-    ≡ (if short-record ns ks b then unchanged ShortBuffer s (lent l d o q) else promise (restores (reliableOf r ns ks b) h) s (lent l d o q))
-
+-- `restores::restore`: the record comes as a struct and three slices, the handoff as a struct and a slice
 pub record Restores (r : Reliable) (h : Option Handoff) (l : Buffers) (x : Session) (z : Left) : Type 0 where
   pub given : Code.Reliable
   pub numbers : List ℕ
   pub lengths : List ℕ
   pub bodies : Bytes
-  pub is : reliableOf given numbers lengths bodies ≡ r
-  pub does : Restored given numbers lengths bodies h (x .code) (x .outbound) (returned z) (z .session .outbound)
+  pub handoff : Given.Handoff
+  pub body : Bytes
+  pub record-is : reliableOf given numbers lengths bodies ≡ r
+  pub handoff-is : handoffGiven handoff body ≡ h
+  pub does : Restored given numbers lengths bodies handoff body (x .code) (x .outbound) (returned z) (z .session .outbound)
   pub list : z .list ≡ l .list
   pub delivery : z .delivery ≡ l .delivery
   pub queue : z .session .queue ≡ x .queue
@@ -175,6 +168,6 @@ Meets prepares = Only-answers prepares
 Meets (completes c persisted) = Takes-list (completes c persisted)
 Meets (connects event now forced) = Takes-list (connects event now forced)
 Meets (reports what n accepted) = Takes-list (reports what n accepted)
-Meets (fetches n) = Finds n
+Meets (fetches n) = Finds (fetches n)
 Meets (retires retain) = Takes-stores (retires retain)
 Meets (restores r h) = Restores r h

@@ -18,8 +18,9 @@ use Rattle.rules.specs.State.{size-of, is-number, held, start-of}
 use Rattle.rules.specs.Replay.{place}
 use Rattle.outbox.specs.declared.Unacked.{Unacked}
 use Rattle.outbox.specs.declared.Outbox.{Outbox}
+use Rattle.outbox.specs.declared.Place.{Place}
 use Rattle.outbox.specs.declared.Place.the-variants.{At, Nowhere}
-use Rattle.outbox.specs.View.{lenU, unacked, usedU, unackedOf, endU, blankU}
+use Rattle.outbox.specs.View.{lenU, unacked, usedU, unackedOf, endU, blankU, ExactOutbox}
 use Rattle.outbox.specs.Records.{placeU, answerOf}
 
 -- ---- a loop that looks for a number
@@ -74,3 +75,23 @@ unfolding unackedOf held start-of
 place-unacked n x o h =
     place-cut n 0 (usedU x) o h
     ∙ ap (place (first (is-number n) (cut lenU unacked (usedU x) o))) (omega arith)
+
+-- a place lies before the end of the bodies
+place-within : (n at : ℕ) (us : List Unacked) (a k : ℕ) → placeU n at us ≡ At a k → a + k ≤ at + total lenU us
+unfolding placeU total
+place-within n at [] a k e = let z : _≡_ {A = ℕ} 0 1 = cc in absurd (omega arith)
+place-within n at (u ∷ us) a k e = go (eqb (u .number) n) (place-within n (at + u .len) us a k) e
+  where
+    go : (t : Bool) → (placeU n (at + u .len) us ≡ At a k → a + k ≤ at + u .len + total lenU us) → (if t then At at (u .len) else placeU n (at + u .len) us) ≡ At a k → a + k ≤ at + (u .len + total lenU us)
+    go true g f =
+        let p : at ≡ a = cc in
+        let q : u .len ≡ k = cc in
+        omega arith
+    go false g f = omega (arith, g f)
+
+pub part-fits : (n : ℕ) (x : Outbox) (s : Bytes) {p : Place} → p ≡ placeU n 0 (usedU x) → ExactOutbox x (length s) → (a k : ℕ) → p ≡ At a k
+    → (a ≤ length s) × (k ≤ length s - a)
+part-fits n x s is ex a k e =
+    let w : a + k ≤ 0 + total lenU (usedU x) = place-within n 0 (usedU x) a k (sym is ∙ e) in
+    let i : endU x ≤ 65536 = ex .small in
+    let j : 65536 ≤ length s = ex .room in (omega arith, omega arith)

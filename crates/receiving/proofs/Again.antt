@@ -22,9 +22,9 @@ use Rattle.numbers.specs.Seats.{inUse, Holds}
 use Rattle.peer_session.specs.declared.SessionState.{SessionState}
 use Rattle.peer_session.specs.View.{stateOf, Exact}
 use Rattle.delivery.proofs.Written.{write-asked}
-use Rattle.receiving.specs.declared.Ended.{Ended}
+use Rattle.draining.specs.declared.Ended.{Ended}
 use Rattle.receiving.specs.Checks.{again, Acknowledges}
-use Rattle.receiving.proofs.Failing.{listed-books}
+use Rattle.draining.proofs.Failing.{listed-books, fresh-books}
 
 -- ---- a commit is requested, in the books
 
@@ -32,9 +32,6 @@ pub asked-final : (us : List Unacked) (t : State) {l l′ : List ℕ} {n n′ : 
     → final us (request t) (books l n d at) ≡ ends No t (books l′ n′ d at)
 unfolding request
 asked-final us t {l} {l′} {n} {n′} d at h = ap (ends No t) (write-asked (t .clock) (books l n d at) l′ n′ h us)
-
-pub fresh-books : (l : List ℕ) (d : Bytes) → Within (books l 0 d 0)
-fresh-books l d = record { listed = omega arith; filled = omega arith }
 
 -- ---- answered, or it waits
 

@@ -39,14 +39,17 @@ use Rattle.session.proofs.Entry.{Entered, entered}
 use Rattle.delivery.specs.Turns.{frameOf}
 use Rattle.receiving.specs.declared.Verdict.{Verdict}
 use Rattle.receiving.specs.declared.Verdict.the-variants.{Refuse, Fail, Again, New}
-use Rattle.receiving.specs.declared.Ended.{Ended}
-use Rattle.receiving.specs.Ends.{Stores, Fails}
-use Rattle.receiving.specs.Checks.{verdictOf, again, anew, ruled, reached, Checked, Acknowledges, Acknowledging, Receiving, Anew, told}
-use Rattle.receiving.specs.Calls.{Arrived, returned}
-use Rattle.receiving.proofs.Failing.{same-unacked, failing-goes, fails-final, fails-stores}
+use Rattle.draining.specs.declared.Ended.{Ended}
+use Rattle.draining.specs.Ends.{Stores, Fails}
+use Rattle.draining.specs.Arrived.{told}
+use Rattle.receiving.specs.Checks.{verdictOf, again, anew, ruled, reached, Checked, Acknowledges, Acknowledging, Receiving, Anew}
+use Rattle.draining.specs.Arrived.{Arrived}
+use Rattle.receiving.specs.Calls.{returned}
+use Rattle.draining.proofs.Failing.{same-unacked, failing-goes, fails-final, fails-stores}
 use Rattle.receiving.proofs.Checks.{spent, spent-reach, as-ruled, as-reached, new-frame, old-frame}
-use Rattle.receiving.proofs.Again.{fresh-books}
-use Rattle.receiving.proofs.Calls as Calls
+use Rattle.draining.proofs.Failing.{fresh-books}
+use Rattle.draining.proofs.Calls as Calls
+use Rattle.draining.proofs.Calls.{arrived-good, arrived-entered}
 
 -- ---- the call takes all four buffers
 
@@ -68,12 +71,6 @@ pub answered-as : (e : Ended) (y : Stop) → e .stop ≡ y → record { session 
 answered-as e y h = ap {B = Returned} (λ (z : Stop). record { session = e .session; answer = told (Flag true) z; events = e .events }) (sym h)
 
 -- ---- past the tests at the entry
-
-pub arrived-good : (s : SessionState) (l : List ℕ) (d o q : Bytes) → Arrived s l d o q → Good s o q
-arrived-good s l d o q a = sound-good s o q (a .good) (a .full) (a .outbound) (a .queue)
-
-pub arrived-entered : (s : SessionState) (l : List ℕ) (d o q : Bytes) → Arrived s l d o q → Entered s o q
-arrived-entered s l d o q a = entered s o q (a .good) (a .full) (a .outbound) (a .queue)
 
 pub check-fits : {s : SessionState} {l : List ℕ} {d o q : Bytes} → Arrived s l d o q → ExactNumbers (s .waiting) × (s .queue .count ≤ 256)
 check-fits {s} {l} {d} {o} {q} a = let g : Good s o q = arrived-good s l d o q a in (g .exact .rest .waiting, g .exact .queued .few)

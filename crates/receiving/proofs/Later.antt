@@ -36,13 +36,14 @@ use Rattle.peer_session.specs.View.{stateOf, fixedOf, Exact}
 use Rattle.delivery.specs.declared.Turn.{Turn}
 use Rattle.delivery.specs.Turns.{during, Under}
 use Rattle.delivery.proofs.Written.{few-asked}
-use Rattle.receiving.specs.declared.Ended.{Ended}
-use Rattle.receiving.specs.Turns.{turnOf, with-queue}
-use Rattle.receiving.specs.Ends.{Stores, Fails, Carrying, Carries}
+use Rattle.draining.specs.declared.Ended.{Ended}
+use Rattle.draining.specs.Turns.{turnOf, with-queue}
+use Rattle.draining.specs.Ends.{Stores, Fails, Carrying, Carries}
 use Rattle.receiving.specs.Checks.{anew, reachNew, Receiving, Taking, Anew}
-use Rattle.receiving.proofs.Settled.{begins}
-use Rattle.receiving.proofs.Failing.{leaves-final, fails-final, fails-stores}
-use Rattle.receiving.proofs.Again.{asked-final, fresh-books}
+use Rattle.draining.proofs.Settled.{begins}
+use Rattle.draining.proofs.Failing.{leaves-final, fails-final, fails-stores}
+use Rattle.draining.proofs.Failing.{fresh-books}
+use Rattle.receiving.proofs.Again.{asked-final}
 use Rattle.receiving.proofs.Choice.{new-queues, reach-later, frame-sound}
 use Rattle.receiving.proofs.Now.{limits, good, new-sound, body-short, stored-end}
 

@@ -11,9 +11,9 @@ use Rattle.queue.specs.View.{framesOf}
 use Rattle.peer_session.specs.declared.SessionState.{SessionState}
 use Rattle.peer_session.specs.View.{stateOf}
 use Rattle.delivery.specs.declared.Turn.{Turn}
-use Rattle.receiving.specs.Turns.{turnOf}
+use Rattle.draining.specs.Turns.{turnOf}
 use Rattle.receiving.specs.Checks.{Receiving, Taking, Delivers}
-use Rattle.receiving.proofs.Settled.{begins}
+use Rattle.draining.proofs.Settled.{begins}
 
 module _ {f : Frame} {s : SessionState} {l : List ℕ} {d o q : Bytes} (pre : Receiving f s l d o q) {t : Turn} (e : t ≡ turnOf s) where
   pub new-above : t .remote < f .number

@@ -34,14 +34,15 @@ use Rattle.delivery.specs.declared.Turn.{Turn}
 use Rattle.delivery.specs.declared.Step.{Step}
 use Rattle.delivery.specs.Turns.{during, Under, Ready, left-by, acked-by, Delivered}
 use Rattle.delivery.proofs.Written.{few-asked}
-use Rattle.receiving.specs.declared.Ended.{Ended}
-use Rattle.receiving.specs.Turns.{turnOf, Settling}
-use Rattle.receiving.specs.Ends.{Stores, Abandoning, Abandons, Carrying, Carries}
+use Rattle.draining.specs.declared.Ended.{Ended}
+use Rattle.draining.specs.Turns.{turnOf, Settling}
+use Rattle.draining.specs.Ends.{Stores, Abandoning, Abandons, Carrying, Carries}
 use Rattle.receiving.specs.Checks.{anew, reachNew, NewFrame, Receiving, Taking, Anew}
-use Rattle.receiving.proofs.Settled.{begins}
-use Rattle.receiving.proofs.Failing.{leaves-final}
-use Rattle.receiving.proofs.Carried.{settling}
-use Rattle.receiving.proofs.Again.{asked-final, fresh-books}
+use Rattle.draining.proofs.Settled.{begins}
+use Rattle.draining.proofs.Failing.{leaves-final}
+use Rattle.draining.proofs.Carried.{settling}
+use Rattle.draining.proofs.Failing.{fresh-books}
+use Rattle.receiving.proofs.Again.{asked-final}
 use Rattle.receiving.proofs.Choice.{chosen, new-delivers, chosen-left, reach-now, frame-sound}
 
 -- ---- what a sound state has room for

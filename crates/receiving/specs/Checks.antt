@@ -26,9 +26,9 @@ use Rattle.delivery.specs.declared.Turn.{Turn}
 use Rattle.delivery.specs.Turns.{frameOf, during, Under}
 use Rattle.receiving.specs.declared.Verdict.{Verdict}
 use Rattle.receiving.specs.declared.Verdict.the-variants.{Refuse, Fail, Again, New}
-use Rattle.receiving.specs.declared.Ended.{Ended}
-use Rattle.receiving.specs.Turns.{turnOf}
-use Rattle.receiving.specs.Ends.{Stores}
+use Rattle.draining.specs.declared.Ended.{Ended}
+use Rattle.draining.specs.Turns.{turnOf}
+use Rattle.draining.specs.Ends.{Stores}
 
 -- ---- the checks, in their order
 
@@ -130,8 +130,3 @@ abbrev pub Delivers : HostStatus → ℕ → ℕ → Turn → Bool → Type 0
 Delivers status n k t r =
     (b : Bytes) (s : State) (fs : List Frame) (ws : List ℕ) → Under s t
     → r ≡ (at-once status (frameOf n k b) (during s fs ws t) || from-ahead status (frameOf n k b) (during s fs ws t))
-
--- the answer, by the refusal that ended it
-abbrev pub told : Answer → Stop → Answer
-told a No = a
-told a (By x) = Refused x

@@ -1,39 +1,24 @@
-// Receiving: the Rust's `receive_data` and `consumer_ready` (session.rs), with what they do of the state.
+// The Rust's `receive_data` (session.rs), with what it does of the state.
 ghost use mathlib.Core.Path.{_≡_};
-ghost use mathlib.Core.Bool.{Bool, true, false};
-ghost use Prim.Native.Nat.{_+_, _*_, _≤_, _<_};
-ghost use lib.ListN.{length, take};
-ghost use Rattle.outbox.specs.Steps.{Room, Appended};
-ghost use Rattle.rules.specs.Receiving.{mode-of};
-ghost use Rattle.rules.specs.Calls.{gets-data, is-ready};
-ghost use Rattle.queue.specs.View.{ExactQueue};
+ghost use mathlib.Core.Bool.{true, false};
+ghost use Prim.Native.Nat.{_≤_, _<_};
+ghost use lib.ListN.{length};
+ghost use Rattle.rules.specs.Calls.{gets-data};
 ghost use Rattle.numbers.specs.Seats.{ExactNumbers};
-ghost use Rattle.peer_session.specs.View.{rejectOf};
 ghost use Rattle.session.specs.Promise.{lent, Called};
 ghost use Rattle.delivery.specs.Turns.{frameOf};
-ghost use Rattle.receiving.specs.Turns.{turnOf, Settling, Settles, Advances, Finishing, Finishes};
 ghost use Rattle.receiving.specs.Checks.{Filled, Checked, Acknowledges, Acknowledging, Receiving, Taking, Anew, Terminal, Delivers};
-ghost use Rattle.receiving.specs.Calls.{Arrived, returned, with-mode};
-ghost use Rattle.receiving.specs.Ends.{Fails, Abandoning, Abandons, Carrying, Carries};
+ghost use Rattle.draining.specs.Arrived.{Arrived};
+ghost use Rattle.receiving.specs.Calls.{returned};
 use delivery::Turn;
+use draining::Ended;
 use events::Stop;
-use numbers::Numbers;
-use outbox::Outbox;
-use peer_session::RejectBody;
 use peer_session::SessionState;
-use peer_session::Stage;
 use rules::Answer;
 use rules::HostStatus;
 use rules::ReceiveMode;
 use rules::Refusal;
 use session::Returned;
-
-// The session that a call ends with, the count of events, and the refusal that ended it.
-pub struct Ended {
-    pub session: SessionState,
-    pub events: usize,
-    pub stop: Stop,
-}
 
 // What becomes of data.
 pub enum Verdict {
@@ -42,165 +27,6 @@ pub enum Verdict {
     // a duplicate
     Again,
     New,
-}
-
-// ---- a turn, and what it leaves
-
-fn turn_of(s: SessionState) -> Turn
-    ensures { λ r. ⌜ r ≡ turnOf s ⌝ }
-{
-    let g = s.stage;
-    let mode = g.mode;
-    let clock = s.clock;
-    Turn {
-        mode: mode,
-        failed: g.failed,
-        remote: s.remote,
-        clock: clock,
-        disposition: g.disposition,
-        next: s.outbox.next,
-        unacked: 0 < s.outbox.count,
-        sent: false,
-        dropped: false,
-    }
-}
-
-// The rejection, of n bytes, sent anew.
-fn send_reject(o: Outbox, outbound: &mut [u8], body: &[u8], n: usize) -> Outbox
-    requires { ⌜ (Room o (length (now outbound)) 0 n) × (n ≤ length (now body)) ⌝ }
-    ensures { λ r. ⌜ Appended o (now (outbound .entry)) (take n (now (body .entry))) r (now (outbound .exit)) ⌝ }
-{
-    outbox::append(o, outbound, 0, &body[..n])
-}
-
-// The outbox after a turn. Where the rejection was sent and then all was dropped, only its number is gone.
-fn settle(o: Outbox, outbound: &mut [u8], t: Turn, j: RejectBody) -> Outbox
-    requires { ⌜ Settling t j o (length (now outbound)) ⌝ }
-    ensures { λ r. ⌜ Settles t (rejectOf j) o (now (outbound .entry)) r (now (outbound .exit)) ⌝ }
-{
-    if t.sent {
-        if t.dropped {
-            let mut r = o;
-            r.next = o.next + 1;
-            return r;
-        }
-        let body = j.bytes;
-        return send_reject(o, outbound, &body, j.len);
-    }
-    if t.dropped {
-        return outbox::discard(o, outbound);
-    }
-    o
-}
-
-// The session after a turn, but for its queue.
-fn advance(s: SessionState, outbound: &mut [u8], t: Turn, w: Numbers) -> SessionState
-    requires { ⌜ Settling t (s .reject) (s .outbox) (length (now outbound)) ⌝ }
-    ensures { λ r. ⌜ Advances t w s (now (outbound .entry)) r (now (outbound .exit)) ⌝ }
-{
-    let o = s.outbox;
-    let j = s.reject;
-    let settled = settle(o, outbound, t, j);
-    let clock = t.clock;
-    let disposition = t.disposition;
-    let mut r = s;
-    r.outbox = settled;
-    r.remote = t.remote;
-    r.waiting = w;
-    r.clock = clock;
-    r.stage.disposition = disposition;
-    r
-}
-
-// The same with its queue, from whose front frames were taken.
-fn finish(
-    s: SessionState,
-    outbound: &mut [u8],
-    queue: &mut [u8],
-    t: Turn,
-    w: Numbers,
-    taken: usize,
-) -> SessionState
-    requires { ⌜ Finishing t taken s (length (now outbound)) (length (now queue)) ⌝ }
-    ensures { λ r. ⌜ Finishes t w taken s (now (outbound .entry)) (now (queue .entry)) r (now (outbound .exit)) (now (queue .exit)) ⌝ }
-{
-    let q = s.queue;
-    let left = queue::drop_front(q, queue, taken);
-    let mut r = advance(s, outbound, t, w);
-    r.queue = left;
-    r
-}
-
-// ---- a refusal that empties the queue
-
-// The Rust's `failure`: the queue is emptied, and code 7 comes last.
-fn fail(s: SessionState, list: &mut [u64], n: usize, queue: &mut [u8], x: Refusal) -> Ended
-    requires { ⌜ (ExactQueue (s .queue) (length (now queue))) × (4 * n + 4 ≤ length (now list)) ⌝ }
-    ensures { λ r. ⌜ Fails x s (now (list .entry)) n (now (queue .entry)) r (now (list .exit)) (now (queue .exit)) ⌝ }
-{
-    let emptied = peer_session::broken(s, queue);
-    let number = answers::refusal_number(x);
-    events::emit(list, n, 7, number, 0, 0);
-    Ended {
-        session: emptied,
-        events: n + 1,
-        stop: Stop::By(x),
-    }
-}
-
-// The same after a turn: what it did stands.
-fn abandon(
-    s: SessionState,
-    list: &mut [u64],
-    n: usize,
-    outbound: &mut [u8],
-    queue: &mut [u8],
-    t: Turn,
-    w: Numbers,
-    x: Refusal,
-) -> Ended
-    requires { ⌜ Abandoning t w s n (length (now list)) (length (now outbound)) (length (now queue)) ⌝ }
-    ensures { λ r. ⌜ Abandons x t w s (now (list .entry)) n (now (outbound .entry)) (now (queue .entry)) r (now (list .exit)) (now (outbound .exit)) (now (queue .exit)) ⌝ }
-{
-    let r = advance(s, outbound, t, w);
-    fail(r, list, n, queue, x)
-}
-
-// ---- the drain, and the end of a call
-
-// Drains the queue from index from on, with n events and at delivery bytes so far, and stores what came of it.
-fn carry(
-    s: SessionState,
-    t: Turn,
-    w: Numbers,
-    from: usize,
-    status: HostStatus,
-    list: &mut [u64],
-    n: usize,
-    delivery: &mut [u8],
-    at: usize,
-    outbound: &mut [u8],
-    queue: &mut [u8],
-) -> Ended
-    requires { ⌜ Carrying t w from s (now list) n (now delivery) at (now outbound) (now queue) ⌝ }
-    ensures { λ r. ⌜ Carries status t w from s (now (list .entry)) n (now (delivery .entry)) at (now (outbound .entry)) (now (queue .entry)) r (now (list .exit)) (now (delivery .exit)) (now (outbound .exit)) (now (queue .exit)) ⌝ }
-{
-    let q = s.queue;
-    let d = delivery::drain(t, w, q, from, queue, status, list, n, delivery, at);
-    let turn = d.turn;
-    let waiting = d.waiting;
-    let stop = d.stop;
-    match stop {
-        Stop::By(x) => abandon(s, list, d.events, outbound, queue, turn, waiting, x),
-        Stop::No => {
-            let r = finish(s, outbound, queue, turn, waiting, d.taken);
-            Ended {
-                session: r,
-                events: d.events,
-                stop: Stop::No,
-            }
-        }
-    }
 }
 
 // ---- checks
@@ -332,14 +158,14 @@ fn take_now(
     let w = s.waiting;
     let stop = a.stop;
     match stop {
-        Stop::By(x) => abandon(s, list, a.events, outbound, queue, turn, w, x),
+        Stop::By(x) => draining::abandon(s, list, a.events, outbound, queue, turn, w, x),
         Stop::No => {
             let acks = numbers::put(w, number);
             let q = s.queue;
             let from = queue::up_to(q, number);
             let c = turn.clock;
             let n = events::request(c, list, a.events);
-            carry(
+            draining::carry(
                 s,
                 turn,
                 acks,
@@ -378,20 +204,20 @@ fn enqueue(
     let held = queue::find(q, number);
     if held {
         let n = events::request(c, list, 0);
-        return carry(s, t, w, 0, status, list, n, delivery, 0, outbound, queue);
+        return draining::carry(s, t, w, 0, status, list, n, delivery, 0, outbound, queue);
     }
     if s.policy.messages < q.count + 1 {
-        return fail(s, list, 0, queue, Refusal::QueueCount);
+        return draining::fail(s, list, 0, queue, Refusal::QueueCount);
     }
     let used = queue::used(q);
     if s.policy.bytes < used + body.len() {
-        return fail(s, list, 0, queue, Refusal::QueueBytes);
+        return draining::fail(s, list, 0, queue, Refusal::QueueBytes);
     }
     let more = queue::insert(q, queue, number, kind, body);
     let mut r = s;
     r.queue = more;
     let n = events::request(c, list, 0);
-    carry(r, t, w, 0, status, list, n, delivery, 0, outbound, queue)
+    draining::carry(r, t, w, 0, status, list, n, delivery, 0, outbound, queue)
 }
 
 fn receive_new(
@@ -408,7 +234,7 @@ fn receive_new(
     requires { ⌜ Receiving (frameOf number kind (now body)) s (now list) (now delivery) (now outbound) (now queue) ⌝ }
     ensures { λ r. ⌜ Anew status (frameOf number kind (now (body .entry))) s (now (list .entry)) (now (delivery .entry)) (now (outbound .entry)) (now (queue .entry)) r (now (list .exit)) (now (delivery .exit)) (now (outbound .exit)) (now (queue .exit)) ⌝ }
 {
-    let t = turn_of(s);
+    let t = draining::turn_of(s);
     if delivers(t, status, number, kind) {
         return take_now(
             s,
@@ -475,7 +301,7 @@ fn receive(
     match verdict {
         Verdict::Refuse(x) => session::refused(s, x),
         Verdict::Fail(x) => {
-            let e = fail(s, list, 0, queue, x);
+            let e = draining::fail(s, list, 0, queue, x);
             answered(e)
         }
         Verdict::Again => {
@@ -545,102 +371,4 @@ pub fn receive_data(
         kind as u8,
         body,
     )
-}
-
-// ---- consumer ready
-
-fn mode_of(n: u64) -> ReceiveMode
-    ensures { λ r. ⌜ r ≡ mode-of n ⌝ }
-{
-    if n == 0 {
-        return ReceiveMode::Raw;
-    }
-    if n == 1 {
-        return ReceiveMode::Proposal;
-    }
-    if n == 2 {
-        return ReceiveMode::Channel;
-    }
-    if n == 3 {
-        return ReceiveMode::Rejection;
-    }
-    ReceiveMode::Retiring
-}
-
-fn take_mode(s: SessionState, mode: ReceiveMode) -> SessionState
-    ensures { λ r. ⌜ r ≡ with-mode mode s ⌝ }
-{
-    let g = s.stage;
-    let setup = g.setup;
-    let stage = Stage {
-        disposition: g.disposition,
-        setup: setup,
-        mode: mode,
-        failed: g.failed,
-    };
-    let mut r = s;
-    r.stage = stage;
-    r
-}
-
-// The queue of a sound session begins above remote: nothing in it is obsolete. A refusal that ends the drain is not returned.
-fn ready(
-    s: SessionState,
-    list: &mut [u64],
-    delivery: &mut [u8],
-    outbound: &mut [u8],
-    queue: &mut [u8],
-    status: HostStatus,
-    mode: u64,
-) -> Returned
-    requires { ⌜ (Arrived s (now list) (now delivery) (now outbound) (now queue)) × (mode ≤ 4) ⌝ }
-    ensures { λ r. ⌜ Called (is-ready status mode) s (lent (now (list .entry)) (now (delivery .entry)) (now (outbound .entry)) (now (queue .entry))) r (lent (now (list .exit)) (now (delivery .exit)) (now (outbound .exit)) (now (queue .exit))) ⌝ }
-{
-    let m = mode_of(mode);
-    let r = take_mode(s, m);
-    let t = turn_of(r);
-    let w = s.waiting;
-    let e = carry(r, t, w, 0, status, list, 0, delivery, 0, outbound, queue);
-    let left = e.session;
-    Returned {
-        session: left,
-        answer: Answer::Done,
-        events: e.events,
-    }
-}
-
-// The Rust's `consumer_ready`: what takes messages changed, and is ready.
-pub fn consumer_ready(
-    s: SessionState,
-    list: &mut [u64],
-    delivery: &mut [u8],
-    outbound: &mut [u8],
-    queue: &mut [u8],
-    status: HostStatus,
-    mode: u64,
-) -> Returned
-    ensures { λ r. ⌜ Called (is-ready status mode) s (lent (now (list .entry)) (now (delivery .entry)) (now (outbound .entry)) (now (queue .entry))) r (lent (now (list .exit)) (now (delivery .exit)) (now (outbound .exit)) (now (queue .exit))) ⌝ }
-{
-    if list.len() < SessionState::EVENT_WORDS {
-        return session::refused(s, Refusal::ShortBuffer);
-    }
-    if delivery.len() < SessionState::DELIVERY_BYTES {
-        return session::refused(s, Refusal::ShortBuffer);
-    }
-    if outbound.len() < SessionState::OUTBOUND_BYTES {
-        return session::refused(s, Refusal::ShortBuffer);
-    }
-    if queue.len() < SessionState::QUEUE_BYTES {
-        return session::refused(s, Refusal::ShortBuffer);
-    }
-    if 4 < mode {
-        return session::refused(s, Refusal::UnknownCode);
-    }
-    if !peer_session::sound(s) {
-        return session::refused(s, Refusal::BadRecord);
-    }
-    if SessionState::GENERATION_LIMIT <= s.clock.generation {
-        return session::refused(s, Refusal::GenerationsExhausted);
-    }
-    ready(s, list, delivery, outbound, queue, status, mode)
 }

@@ -1,13 +1,14 @@
 use mathlib.Core.Path.{ap, _∙_}
 use mathlib.Core.Bool.{Bool}
 use Rattle.rules.specs.Lists.{Bytes, same}
-use Rattle.handoffs.proofs.Unacked.{part-fits, carries-here, carries-none}
+use Rattle.outbox.proofs.Places.{part-fits}
+use Rattle.handoffs.proofs.Unacked.{carries-here, carries-none}
 use borrow.Author.Needs.{needs}
 use Rattle.handoffs.proofs.carried.Statement.{statement}
 use Rattle.handoffs.proofs.carried.Tie as tie
 use Rattle.handoffs.proofs.carried.Reads as reads
 use Rattle.handoffs.proofs.carried.Lts as lts
-use Rattle.handoffs.proofs.part.Reads as part-reads
+use Rattle.stores.proofs.part.Reads as part-reads
 use Rattle.outbox.proofs.locate.Reads as locate-reads
 use Rattle.text.proofs.same_bytes.Reads as same-bytes-reads
 
@@ -21,7 +22,7 @@ enum-known-p c = search needs
 
 -- src/lib.rt:83:54
 part-requires : tie.Need-part-requires
-part-requires c κs = part-fits (c .before .before .before .before .before .before .args .number) (c .before .before .before .before .before .before .args .o) (c .before .before .before .before .before .before .args .outbound .now) (c .before .before .before .before .before .before .pre .0) (c .before .before .before .locate .ensures) (c .before .p .given .0 .0) (c .before .p .given .0 .1 .0) (c .before .before .before .before .before .before .pre .1) (c .before .p .given .1)
+part-requires c κs = part-fits (c .before .before .before .before .before .before .args .number) (c .before .before .before .before .before .before .args .o) (c .before .before .before .before .before .before .args .outbound .now) (c .before .before .before .locate .ensures) (c .before .before .before .before .before .before .pre .1) (c .before .p .given .0 .0) (c .before .p .given .0 .1 .0) (c .before .p .given .1)
 
 -- src/lib.rt:83:37
 same-bytes-requires : tie.Need-same-bytes-requires

@@ -10,8 +10,8 @@ use Rattle.events.proofs.request.Reads as request-reads
 use Rattle.queue.proofs.find.Reads as find-reads
 use Rattle.queue.proofs.insert.Reads as insert-reads
 use Rattle.queue.proofs.used.Reads as used-reads
-use Rattle.receiving.proofs.carry.Reads as carry-reads
-use Rattle.receiving.proofs.fail.Reads as fail-reads
+use Rattle.draining.proofs.carry.Reads as carry-reads
+use Rattle.draining.proofs.fail.Reads as fail-reads
 
 -- src/lib.rt:358:8
 find-requires : tie.Need-find-requires

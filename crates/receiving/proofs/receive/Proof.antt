@@ -9,7 +9,7 @@ use Rattle.receiving.proofs.receive.Reads as reads
 use Rattle.receiving.proofs.receive.Lts as lts
 use Rattle.receiving.proofs.answered.Reads as answered-reads
 use Rattle.receiving.proofs.check.Reads as check-reads
-use Rattle.receiving.proofs.fail.Reads as fail-reads
+use Rattle.draining.proofs.fail.Reads as fail-reads
 use Rattle.receiving.proofs.receive_again.Reads as receive-again-reads
 use Rattle.receiving.proofs.receive_new.Reads as receive-new-reads
 use Rattle.session.proofs.refused.Reads as refused-reads

@@ -1,6 +1,6 @@
 use mathlib.Core.Path.{sym, _∙_}
 use borrow.Author.Tests.{not-true, not-false}
-use Rattle.receiving.proofs.Calls.{list-short, delivery-short, outbound-short, queue-short, code-wrong, unsound}
+use Rattle.draining.proofs.Calls.{list-short, delivery-short, outbound-short, queue-short, code-wrong, unsound}
 use Rattle.rules.specs.Calls.{gets-data}
 use Rattle.delivery.specs.Turns.{frameOf}
 use Rattle.receiving.proofs.Data.{data-takes, data-wrong, data-known, exhausted}

@@ -8,7 +8,7 @@ use Rattle.receiving.proofs.receive_new.Lts as lts
 use Rattle.receiving.proofs.delivers.Reads as delivers-reads
 use Rattle.receiving.proofs.enqueue.Reads as enqueue-reads
 use Rattle.receiving.proofs.take_now.Reads as take-now-reads
-use Rattle.receiving.proofs.turn_of.Reads as turn-of-reads
+use Rattle.draining.proofs.turn_of.Reads as turn-of-reads
 
 -- src/lib.rt:390:9
 turn-of-requires : tie.Need-turn-of-requires

@@ -9,8 +9,8 @@ use Rattle.delivery.proofs.deliver.Reads as deliver-reads
 use Rattle.events.proofs.request.Reads as request-reads
 use Rattle.numbers.proofs.put.Reads as put-reads
 use Rattle.queue.proofs.up_to.Reads as up-to-reads
-use Rattle.receiving.proofs.abandon.Reads as abandon-reads
-use Rattle.receiving.proofs.carry.Reads as carry-reads
+use Rattle.draining.proofs.abandon.Reads as abandon-reads
+use Rattle.draining.proofs.carry.Reads as carry-reads
 
 -- src/lib.rt:322:9
 deliver-requires : tie.Need-deliver-requires

@@ -1,0 +1,2 @@
+-- The laws of consumers.
+pub mod Consumers

@@ -1,0 +1,2 @@
+-- The definitions that the contracts of `consumers` cite.
+pub mod Modes

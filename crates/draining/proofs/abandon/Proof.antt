@@ -1,0 +1,37 @@
+use Rattle.draining.proofs.Failing.{abandons, advances-queued}
+use borrow.Author.Needs.{needs}
+use Rattle.draining.proofs.abandon.Statement.{statement}
+use Rattle.draining.proofs.abandon.Tie as tie
+use Rattle.draining.proofs.abandon.Reads as reads
+use Rattle.draining.proofs.abandon.Lts as lts
+use Rattle.draining.proofs.advance.Reads as advance-reads
+use Rattle.draining.proofs.fail.Reads as fail-reads
+
+-- src/lib.rt:145:9
+advance-requires : tie.Need-advance-requires
+advance-requires c κs = search needs
+
+-- src/lib.rt:146:5
+fail-requires : tie.Need-fail-requires
+fail-requires c κs = (advances-queued (c .before .before .before .before .advance .ensures) (c .before .before .before .before .before .before .before .before .before .pre .exact), c .before .before .before .before .before .before .before .before .before .pre .room)
+
+-- src/lib.rt:132:1
+same-length : tie.Need-same-length
+same-length c = search needs
+
+-- src/lib.rt:132:1
+same-length-2 : tie.Need-same-length-2
+same-length-2 c = search needs
+
+-- src/lib.rt:132:1
+same-length-3 : tie.Need-same-length-3
+same-length-3 c = search needs
+
+-- src/lib.rt:132:1
+returns : tie.Need-returns
+returns c = abandons (c .before .before .before .before .before .before .before .before .before .before .before .before .before .before .pre) (c .before .before .before .before .before .before .before .before .before .advance .ensures) (c .before .before .before .before .fail .ensures)
+
+pub abandon-spec : {M : Type 1} → statement M
+abandon-spec =
+    tie.close
+    (tie.spec advance-requires fail-requires same-length same-length-2 same-length-3 returns)

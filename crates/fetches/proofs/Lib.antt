@@ -1,0 +1,2 @@
+-- The laws of fetches.
+pub mod Finds

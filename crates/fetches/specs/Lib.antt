@@ -1,0 +1,2 @@
+-- The definitions that the contracts of `fetches` cite.
+pub mod Fetched

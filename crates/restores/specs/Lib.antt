@@ -1,0 +1,3 @@
+-- The promise of a restore, and the contracts of its parts.
+pub mod Restored
+pub mod Steps
