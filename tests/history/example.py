@@ -60,7 +60,7 @@ S=[
 w('''-- A history with a lost, a repeated and a reordered frame and with refused calls, and a closing round of its left end; and document 01's short run,
 -- whose acks the other end lists. Both are legal, each call's result meets its contract, and the theorem says of them what it says. Made by
 -- tests/history/example.py. Assumes nothing.
-use mathlib.Core.Path.{_≡_, refl, ap, _∙_, subst}
+use mathlib.Core.Path.{_≡_, refl, ap, subst}
 use mathlib.Core.Bool.{true, false}
 use mathlib.Core.Logic.{inl, inr}
 use mathlib.Core.List.{[], _∷_}
@@ -78,7 +78,7 @@ use Rattle.rules.specs.Events.{words}
 use Rattle.rules.specs.Start.{policy-of, start, started}
 use Rattle.rules.specs.Sound.{sound}
 use Rattle.rules.specs.Calls.{sends, gets-data, gets-ack, commands, prepares, completes, connects, reports, fetches}
-use Rattle.history.specs.Lists.{_⊕_}
+use Rattle.rules.specs.Lists.{_⊕_}
 use Rattle.history.specs.Shown.{numbered-by, is-command}
 use Rattle.history.specs.Contracts.{Session, shown-by, Opening, Starts}
 use Rattle.history.specs.Histories.{left, right, History, opening, turn, trace, Legal}
