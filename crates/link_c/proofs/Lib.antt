@@ -1,0 +1,2 @@
+-- The laws of link_c.
+pub mod Drives

@@ -1,0 +1,2 @@
+-- The laws of link_codes.
+pub mod Codes
