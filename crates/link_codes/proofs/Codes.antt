@@ -2,7 +2,7 @@
 use mathlib.Core.Path.{_≡_, refl, sym, ap, _∙_}
 use mathlib.Core.Bool.{Bool, true, false, _&&_}
 use Prim.Native.Nat.{ℕ, _≤_, _<_}
-use lib.Dec.{leb}
+use lib.Dec.{leb, eqb}
 use borrow.Author.Tests.{eq-eqb, ne-eqb, le-leb, lt-leb}
 use Rattle.rules.specs.declared.Answer.{Answer}
 use Rattle.rules.specs.declared.Terms.{Terms}
@@ -27,8 +27,20 @@ module _ (g : LinkStage) where
   pub bad-setup : 3 < g .setup → false ≡ good-codes g
   bad-setup h = rw (lt-leb (g .setup) 3 h)
 
-  pub mode-decides : g .setup ≤ 3 → leb (g .mode) 4 ≡ good-codes g
-  mode-decides h = rw (le-leb (g .setup) 3 h)
+  module _ (a : g .setup ≤ 3) where
+    pub bad-mode : 4 < g .mode → false ≡ good-codes g
+    bad-mode h = rw (le-leb (g .setup) 3 a, lt-leb (g .mode) 4 h)
+
+    module _ (b : g .mode ≤ 4) where
+      pub waits : g .setup ≡ 1 → true ≡ good-codes g
+      waits e = rw (le-leb (g .setup) 3 a, le-leb (g .mode) 4 b, eq-eqb (g .setup) 1 e)
+
+      module _ (n : g .setup ≡ 1 → ⊥) where
+        pub bad-initiator : g .initiator ≡ true → false ≡ good-codes g
+        bad-initiator e = rw (le-leb (g .setup) 3 a, le-leb (g .mode) 4 b, ne-eqb (g .setup) 1 n, e)
+
+        pub terms-decide : g .initiator ≡ false → eqb (g .terms) 0 ≡ good-codes g
+        terms-decide e = rw (le-leb (g .setup) 3 a, le-leb (g .mode) 4 b, ne-eqb (g .setup) 1 n, e)
 
 module _ (n : ℕ) (t : Terms) where
   pub setup-waiting : n ≡ 1 → Setups.Waiting t ≡ setupOf n t
@@ -79,6 +91,12 @@ module _ (g : LinkStage) where
 pub stage-coded : (g : Stage) {n s m : ℕ} {i : Bool} → n ≡ terms-number (g .setup) → s ≡ setup-code (g .setup) → i ≡ terms-initiator (g .setup) → m ≡ mode-code (g .mode)
     → _≡_ {A = LinkStage} (record { terms = n; disposition = g .disposition; setup = s; initiator = i; mode = m; failed = g .failed }) (stage-codes g)
 stage-coded g a b c d = cc
+
+pub disposition-good : (g : LinkStage) → good-codes g ≡ true → g .disposition ≡ stageOf g .disposition
+disposition-good g e = rw e
+
+pub disposition-bad : (g : LinkStage) → good-codes g ≡ false → 255 ≡ stageOf g .disposition
+disposition-bad g e = rw e
 
 -- ---- sessions
 

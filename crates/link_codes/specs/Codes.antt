@@ -1,9 +1,10 @@
 -- A session as a C struct, and back. Assumes nothing.
 use Prim.Native.Nat.{ℕ}
-use mathlib.Core.Bool.{Bool, true, false, _&&_}
+use mathlib.Core.Bool.{Bool, true, false, not, _&&_}
 use lib.Dec.{eqb, leb}
 use Rattle.rules.specs.declared.Answer.{Answer}
 use Rattle.rules.specs.declared.Answer.the-variants.{Done, Number, Flag, Prepared, Held, NotHeld, Refused}
+use Rattle.rules.specs.declared.Refusal.{Refusal}
 use Rattle.rules.specs.declared.Terms.{Terms}
 use Rattle.rules.specs.declared.Setup.{Setup}
 use Rattle.rules.specs.declared.Setup.the-variants as Setups
@@ -22,8 +23,13 @@ use Rattle.link_codes.specs.declared.LinkReturned.{LinkReturned}
 
 -- ---- codes to enums
 
+-- terms only of a setup that waits
+abbrev pub plain-terms : LinkStage → Bool
+plain-terms g = if eqb (g .setup) 1 then true else not (g .initiator) && eqb (g .terms) 0
+
+-- the codes that sessions close to
 abbrev pub good-codes : LinkStage → Bool
-good-codes g = leb (g .setup) 3 && leb (g .mode) 4
+good-codes g = leb (g .setup) 3 && (leb (g .mode) 4 && plain-terms g)
 
 abbrev pub setupOf : ℕ → Terms → Setup
 setupOf n t =
@@ -145,3 +151,7 @@ closedOf c r =
 -- the same of a start, which got none
 abbrev pub begunOf : Returned → LinkReturned
 begunOf r = record { session = sessionOf (r .session); answer = answerOf (r .answer) (r .events) }
+
+-- a refusal that changes nothing
+abbrev pub refusedOf : LinkSession → Refusal → LinkReturned
+refusedOf c x = record { session = c; answer = handed (refusal-number x) 6 0 0 0 0 }

@@ -2,7 +2,8 @@
 // the other; nothing is asked of what C hands in.
 ghost use mathlib.Core.Path.{_≡_};
 ghost use Rattle.rules.specs.Receiving.{mode-of};
-ghost use Rattle.link_codes.specs.Codes.{good-codes, setupOf, stageOf, openedOf, setup-code, terms-number, terms-initiator, mode-code, stage-codes, sessionOf, handed, answerOf, closedOf, begunOf};
+ghost use Rattle.peer_session.specs.Sound.{Checked};
+ghost use Rattle.link_codes.specs.Codes.{good-codes, setupOf, stageOf, openedOf, setup-code, terms-number, terms-initiator, mode-code, stage-codes, sessionOf, handed, answerOf, closedOf, begunOf, refusedOf};
 use numbers::Numbers;
 use outbox::Outbox;
 use peer_session::RejectBody;
@@ -14,6 +15,7 @@ use rules::Answer;
 use rules::Clock;
 use rules::Policy;
 use rules::ReceiveMode;
+use rules::Refusal;
 use rules::Setup;
 use rules::Terms;
 use session::Returned;
@@ -68,13 +70,23 @@ pub struct LinkReturned {
 
 // ---- codes to enums
 
+// Codes that a session closes to: those of the lists above, and terms only of a setup that waits.
 pub fn good_codes(g: LinkStage) -> bool
     ensures { λ r. ⌜ r ≡ good-codes g ⌝ }
 {
     if 3 < g.setup {
         return false;
     }
-    g.mode <= 4
+    if 4 < g.mode {
+        return false;
+    }
+    if g.setup == 1 {
+        return true;
+    }
+    if g.initiator {
+        return false;
+    }
+    g.terms == 0
 }
 
 fn setup_of(code: u8, terms: Terms) -> Setup
@@ -161,6 +173,40 @@ pub fn opened(c: LinkSession) -> SessionState
         policy: policy,
         reject: reject,
     }
+}
+
+// ---- whether a session is one that calls leave
+
+fn disposition_of(g: LinkStage) -> u8
+    ensures { λ r. ⌜ r ≡ stageOf g .disposition ⌝ }
+{
+    if good_codes(g) {
+        return g.disposition;
+    }
+    255
+}
+
+// `peer_session::sound` of what it opens as, without opening it.
+pub fn sound(c: LinkSession) -> bool
+    ensures { λ r. ⌜ Checked (openedOf c) r ⌝ }
+{
+    let o = c.outbox;
+    if !outbox::sound_outbox(o) {
+        return false;
+    }
+    let q = c.queue;
+    let p = c.policy;
+    if !queue::sound_queue(q, c.remote, p) {
+        return false;
+    }
+    let w = c.waiting;
+    let t = c.retry;
+    if !peer_session::sound_acks(w, t, q.count, c.remote) {
+        return false;
+    }
+    let h = peer_session::handoff_length(c.handoff.present, c.handoff.len);
+    let d = disposition_of(c.stage);
+    peer_session::sound_sizes(d, h, c.reject.len)
 }
 
 // ---- enums to codes
@@ -343,4 +389,22 @@ pub fn told(r: Told) -> LinkAnswer
 {
     let a = r.answer;
     answer_of(a, r.events)
+}
+
+// A refusal that changes nothing, and an answer with the session that it leaves.
+pub fn refused(c: LinkSession, x: Refusal) -> LinkReturned
+    ensures { λ r. ⌜ r ≡ refusedOf c x ⌝ }
+{
+    let answer = LinkAnswer {
+        refusal: answers::refusal_number(x),
+        kind: 6,
+        value: 0,
+        second: 0,
+        third: 0,
+        events: 0,
+    };
+    LinkReturned {
+        session: c,
+        answer: answer,
+    }
 }
