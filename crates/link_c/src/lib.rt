@@ -18,12 +18,15 @@ ghost use Rattle.handoffs.specs.Commands.{commandOf};
 ghost use Rattle.fetches.specs.Fetched.{AnsweredWithOutbound};
 ghost use Rattle.link_codes.specs.Codes.{openedOf};
 ghost use Rattle.link_c.specs.Driven.{Driven, DrivenStart, DrivenTold, DrivenAnswer, policyOf, termsOf};
+use events::Stop;
 use link_codes::LinkAnswer;
 use link_codes::LinkReturned;
 use link_codes::LinkSession;
+use peer_session::SessionState;
 use rules::HostStatus;
 use rules::Policy;
 use rules::PreparedCommit;
+use rules::Refusal;
 use rules::Terms;
 use session::ChannelTerms;
 use starts::LinkClass;
@@ -132,9 +135,38 @@ pub extern "C" fn link_send(
 ) -> LinkReturned
     ensures { λ x. ⌜ Driven c x (λ s y. CalledWithOutbound (sends (now (body .entry))) s (now (list .entry)) (now (outbound .entry)) y (now (list .exit)) (now (outbound .exit))) ⌝ }
 {
-    let s = link_codes::opened(c);
-    let r = sending::send_message(s, list, outbound, body);
-    link_codes::closed(c, r)
+    if list.len() < SessionState::EVENT_WORDS {
+        return link_codes::refused(c, Refusal::ShortBuffer);
+    }
+    if outbound.len() < SessionState::OUTBOUND_BYTES {
+        return link_codes::refused(c, Refusal::ShortBuffer);
+    }
+    if !link_codes::sound(c) {
+        return link_codes::refused(c, Refusal::BadRecord);
+    }
+    if SessionState::GENERATION_LIMIT <= c.clock.generation {
+        return link_codes::refused(c, Refusal::GenerationsExhausted);
+    }
+    let o = c.outbox;
+    let a = peer_session::allocate(o, outbound, body);
+    let stop = a.stop;
+    match stop {
+        Stop::By(x) => link_codes::refused(c, x),
+        Stop::No => {
+            let more = a.outbox;
+            let generation = c.clock.generation + 1;
+            let mut r = c;
+            r.outbox = more;
+            r.clock.generation = generation;
+            let k = r.clock;
+            let n = events::request(k, list, 0);
+            let answer = link_codes::plain(1, o.next, n);
+            LinkReturned {
+                session: r,
+                answer: answer,
+            }
+        }
+    }
 }
 
 // The commit record to save: generation, outbound, remote.

@@ -302,7 +302,7 @@ pub fn session_of(s: SessionState) -> LinkSession
 
 // ---- answers
 
-fn plain(kind: u64, value: u64, events: usize) -> LinkAnswer
+pub fn plain(kind: u64, value: u64, events: usize) -> LinkAnswer
     ensures { λ r. ⌜ r ≡ handed 0 kind value 0 0 events ⌝ }
 {
     LinkAnswer {
