@@ -189,9 +189,50 @@ pub extern "C" fn link_complete(
 ) -> LinkReturned
     ensures { λ x. ⌜ Driven c x (λ s y. CalledWithList (completes commit persisted) s (now (list .entry)) y (now (list .exit))) ⌝ }
 {
-    let s = link_codes::opened(c);
-    let r = commits::complete_commit(s, list, commit, persisted);
-    link_codes::closed(c, r)
+    if list.len() < SessionState::EVENT_WORDS {
+        return link_codes::refused(c, Refusal::ShortBuffer);
+    }
+    if !link_codes::sound(c) {
+        return link_codes::refused(c, Refusal::BadRecord);
+    }
+    if SessionState::LAST_REMOTE < commit.outbound {
+        return link_codes::refused(c, Refusal::CommitNumber);
+    }
+    if SessionState::LAST_REMOTE < commit.remote {
+        return link_codes::refused(c, Refusal::CommitNumber);
+    }
+    let k = c.clock;
+    let clock = commits::persisted_by(k, commit, persisted);
+    if commit.generation <= clock.released {
+        let n = commits::notify_committed(persisted, list, 0);
+        let answer = link_codes::plain(0, 0, n);
+        let mut r = c;
+        r.clock = clock;
+        return LinkReturned {
+            session: r,
+            answer: answer,
+        };
+    }
+    let o = c.outbox;
+    let w = c.waiting;
+    let frames = outbox::release(o, commit.outbound, list, 0);
+    let acks = numbers::release(w, commit.remote, list, frames.events);
+    let n = commits::notify_committed(persisted, list, acks.events);
+    let answer = link_codes::plain(0, 0, n);
+    let left = frames.outbox;
+    let later = acks.numbers;
+    let generation = commit.generation;
+    let remote = commit.remote;
+    let mut r = c;
+    r.outbox = left;
+    r.waiting = later;
+    r.released = remote;
+    r.clock = clock;
+    r.clock.released = generation;
+    LinkReturned {
+        session: r,
+        answer: answer,
+    }
 }
 
 // Whether the line accepted a frame: what is 0 of data, 1 of an ack.
@@ -205,9 +246,66 @@ pub extern "C" fn link_report(
 ) -> LinkReturned
     ensures { λ x. ⌜ Driven c x (λ s y. CalledWithList (reports what number accepted) s (now (list .entry)) y (now (list .exit))) ⌝ }
 {
-    let s = link_codes::opened(c);
-    let r = acks::report(s, list, what, number, accepted);
-    link_codes::closed(c, r)
+    if list.len() < SessionState::EVENT_WORDS {
+        return link_codes::refused(c, Refusal::ShortBuffer);
+    }
+    if 1 < what {
+        return link_codes::refused(c, Refusal::UnknownCode);
+    }
+    if !link_codes::sound(c) {
+        return link_codes::refused(c, Refusal::BadRecord);
+    }
+    if what == 0 {
+        if !accepted {
+            let answer = link_codes::plain(0, 0, 0);
+            return LinkReturned {
+                session: c,
+                answer: answer,
+            };
+        }
+        let o = c.outbox;
+        let sent = outbox::mark_sent(o, number);
+        if !acks::own_frame(c.handoff.present, c.handoff.number, number) {
+            let answer = link_codes::plain(0, 0, 0);
+            let mut r = c;
+            r.outbox = sent;
+            return LinkReturned {
+                session: r,
+                answer: answer,
+            };
+        }
+        events::emit(list, 0, 1, 0, 0, 0);
+        let answer = link_codes::plain(0, 0, 1);
+        let mut r = c;
+        r.outbox = sent;
+        r.handoff.sent = true;
+        return LinkReturned {
+            session: r,
+            answer: answer,
+        };
+    }
+    let v = c.retry;
+    if accepted {
+        let left = numbers::take_out(v, number);
+        let answer = link_codes::plain(0, 0, 0);
+        let mut r = c;
+        r.retry = left;
+        return LinkReturned {
+            session: r,
+            answer: answer,
+        };
+    }
+    if acks::retries_full(v, number) {
+        return link_codes::refused(c, Refusal::RetriesFull);
+    }
+    let more = numbers::put(v, number);
+    let answer = link_codes::plain(0, 0, 0);
+    let mut r = c;
+    r.retry = more;
+    LinkReturned {
+        session: r,
+        answer: answer,
+    }
 }
 
 // The line's state changed, or time passed: unacked messages are sent again.
@@ -221,9 +319,48 @@ pub extern "C" fn link_connectivity(
 ) -> LinkReturned
     ensures { λ x. ⌜ Driven c x (λ s y. CalledWithList (connects event time force) s (now (list .entry)) y (now (list .exit))) ⌝ }
 {
-    let s = link_codes::opened(c);
-    let r = replays::connectivity(s, list, event, time, force);
-    link_codes::closed(c, r)
+    if list.len() < SessionState::EVENT_WORDS {
+        return link_codes::refused(c, Refusal::ShortBuffer);
+    }
+    if event < 1 {
+        return link_codes::refused(c, Refusal::UnknownCode);
+    }
+    if 5 < event {
+        return link_codes::refused(c, Refusal::UnknownCode);
+    }
+    if !link_codes::sound(c) {
+        return link_codes::refused(c, Refusal::BadRecord);
+    }
+    if event <= 3 {
+        let answer = link_codes::plain(2, 1, 0);
+        return LinkReturned {
+            session: c,
+            answer: answer,
+        };
+    }
+    if c.outbox.count == 0 {
+        let answer = link_codes::plain(2, 1, 0);
+        return LinkReturned {
+            session: c,
+            answer: answer,
+        };
+    }
+    if replays::too_soon(time, c.clock.last_replay_at, force) {
+        let answer = link_codes::plain(2, 0, 0);
+        return LinkReturned {
+            session: c,
+            answer: answer,
+        };
+    }
+    let o = c.outbox;
+    let n = outbox::replay(o, list, 0);
+    let answer = link_codes::plain(2, 1, n);
+    let mut r = c;
+    r.clock.last_replay_at = time;
+    LinkReturned {
+        session: r,
+        answer: answer,
+    }
 }
 
 // Whether a number is held, and where its body lies in the outbound store.
