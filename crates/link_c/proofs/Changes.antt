@@ -1,6 +1,12 @@
 -- Calls done on the C struct itself: what they hand back is what the driver's call returns, closed. Assumes nothing.
 use mathlib.Core.Path.{_≡_, refl, sym, ap, _∙_}
-use mathlib.Core.Bool.{Bool, true, false}
+use mathlib.Core.Bool.{Bool, true, false, _&&_}
+use lib.Dec.{eqb}
+use Rattle.rules.specs.Lists.{Bytes}
+use Rattle.rules.specs.State.{is-raw}
+use Rattle.rules.specs.Setup.{rejection-complete}
+use Rattle.peer_session.specs.View.{stateOf}
+use Rattle.peer_session.specs.declared.Stage.{Stage}
 use Prim.Native.Nat.{ℕ}
 use Rattle.rules.specs.declared.Answer.{Answer}
 use Rattle.rules.specs.declared.Answer.the-variants.{Refused}
@@ -17,7 +23,7 @@ use Rattle.link_codes.specs.declared.LinkSession.{LinkSession}
 use Rattle.link_codes.specs.declared.LinkAnswer.{LinkAnswer}
 use Rattle.link_codes.specs.declared.LinkReturned.{LinkReturned}
 use Rattle.link_codes.specs.Codes.{stageOf, openedOf, answerOf, closedOf, refusedOf}
-use Rattle.link_codes.proofs.Back.{with-parts, closes-same, closes-changed, sound-codes}
+use Rattle.link_codes.proofs.Back.{with-parts, closes-same, closes-changed, sound-codes, raw-code, other-disposition}
 use Rattle.link_c.specs.Driven.{Driven}
 
 -- what it opens as, with these parts in place of its own
@@ -51,3 +57,17 @@ module _ (c : LinkSession) {Call : SessionState → Returned → Type 0} where
         called = h;
         closes = ap (λ (b : LinkAnswer). record { session = with-parts (c .stage) s; answer = b }) e ∙ closes-changed c s a n (sound-codes c sound) g;
       }
+
+-- ---- an ack of a session that rejects nothing
+
+and-no : (a b : Bool) → a ≡ false → false ≡ (a && b)
+and-no a b e = rw e
+
+pub none-rejected : (c : LinkSession) → soundOf (openedOf c) ≡ true → (c .stage .disposition ≡ 4 → ⊥) → (s : SessionState) → s .stage ≡ stageOf (c .stage) → (p q : Bytes)
+    → false ≡ rejection-complete (stateOf s p q)
+none-rejected c sound h s e p q =
+    and-no (eqb (s .stage .disposition) 4) _
+    (ap (λ (g : Stage). eqb (g .disposition) 4) e ∙ other-disposition (c .stage) (sound-codes c sound) 4 h)
+
+pub is-raw-in : (c : LinkSession) → soundOf (openedOf c) ≡ true → c .stage .mode ≡ 0 → true ≡ is-raw (stageOf (c .stage) .mode)
+is-raw-in c sound h = raw-code (c .stage) (sound-codes c sound) h

@@ -9,6 +9,7 @@ ghost use Rattle.rules.specs.Setup.{rejection-complete};
 ghost use Rattle.delivery.specs.Turns.{frameOf};
 ghost use Rattle.rules.specs.Start.{link-class};
 ghost use Rattle.rules.specs.Calls.{sends, gets-data, is-ready, gets-ack, gets-keepalive, reports, prepares, completes, connects, accepts, rejects, prepares-channel, retires, commands, fetches};
+ghost use Rattle.outbox.specs.Records.{answerOf};
 ghost use Rattle.peer_session.specs.View.{stateOf};
 ghost use Rattle.session.specs.Promise.{termsIn, lent, Called, CalledWithList, CalledWithOutbound, CalledWithStores, CalledWithOutboundAlone, CalledWithStoresAlone, CalledAlone, ToldWithList, Answered};
 ghost use Rattle.starts.specs.Started.{Started};
@@ -22,7 +23,9 @@ use events::Stop;
 use link_codes::LinkAnswer;
 use link_codes::LinkReturned;
 use link_codes::LinkSession;
+use outbox::Place;
 use peer_session::SessionState;
+use rules::Answer;
 use rules::HostStatus;
 use rules::Policy;
 use rules::PreparedCommit;
@@ -44,6 +47,18 @@ pub struct LinkPolicy {
 pub struct LinkTerms {
     pub terms: Terms,
     pub waiting: bool,
+}
+
+fn place_answer(p: Place) -> Answer
+    ensures { λ x. ⌜ x ≡ answerOf p ⌝ }
+{
+    match p {
+        Place::At { start, len } => Answer::Held {
+            start: start,
+            len: len,
+        },
+        Place::Nowhere => Answer::NotHeld,
+    }
 }
 
 fn no_policy() -> LinkPolicy
@@ -174,8 +189,16 @@ pub extern "C" fn link_send(
 pub extern "C" fn link_prepare(c: LinkSession) -> LinkAnswer
     ensures { λ x. ⌜ DrivenAnswer c x (λ s a. Answered prepares s a) ⌝ }
 {
-    let s = link_codes::opened(c);
-    let a = commits::prepare_commit(s);
+    if !link_codes::sound(c) {
+        let a = Answer::Refused(Refusal::BadRecord);
+        return link_codes::answer_of(a, 0);
+    }
+    let commit = PreparedCommit {
+        generation: c.clock.generation,
+        outbound: c.outbox.next - 1,
+        remote: c.remote,
+    };
+    let a = Answer::Prepared(commit);
     link_codes::answer_of(a, 0)
 }
 
@@ -368,8 +391,17 @@ pub extern "C" fn link_connectivity(
 pub extern "C" fn link_find(c: LinkSession, outbound: &[u8], number: u64) -> LinkAnswer
     ensures { λ x. ⌜ DrivenAnswer c x (λ s a. AnsweredWithOutbound (fetches number) s (now (outbound .entry)) a) ⌝ }
 {
-    let s = link_codes::opened(c);
-    let a = fetches::find(s, outbound, number);
+    if outbound.len() < SessionState::OUTBOUND_BYTES {
+        let a = Answer::Refused(Refusal::ShortBuffer);
+        return link_codes::answer_of(a, 0);
+    }
+    if !link_codes::sound(c) {
+        let a = Answer::Refused(Refusal::BadRecord);
+        return link_codes::answer_of(a, 0);
+    }
+    let o = c.outbox;
+    let p = outbox::locate(o, number);
+    let a = place_answer(p);
     link_codes::answer_of(a, 0)
 }
 
@@ -423,9 +455,8 @@ pub extern "C" fn link_consumer_ready(
     link_codes::closed(c, r)
 }
 
-// An acknowledgement came in.
-#[no_mangle]
-pub extern "C" fn link_ack(
+// An acknowledgement, in any mode: the driver's call.
+fn any_ack(
     c: LinkSession,
     list: &mut [u64],
     outbound: &mut [u8],
@@ -439,14 +470,84 @@ pub extern "C" fn link_ack(
     link_codes::closed(c, r)
 }
 
+// An acknowledgement came in. What a counter's session does with one in range is done here; all else by the driver's call.
+#[no_mangle]
+pub extern "C" fn link_ack(
+    c: LinkSession,
+    list: &mut [u64],
+    outbound: &mut [u8],
+    queue: &mut [u8],
+    number: u64,
+) -> LinkReturned
+    ensures { λ x. ⌜ Driven c x (λ s y. CalledWithStores (gets-ack number) s (now (list .entry)) (now (outbound .entry)) (now (queue .entry)) y (now (list .exit)) (now (outbound .exit)) (now (queue .exit))) ⌝ }
+{
+    if list.len() < SessionState::EVENT_WORDS {
+        return link_codes::refused(c, Refusal::ShortBuffer);
+    }
+    if outbound.len() < SessionState::OUTBOUND_BYTES {
+        return link_codes::refused(c, Refusal::ShortBuffer);
+    }
+    if queue.len() < SessionState::QUEUE_BYTES {
+        return link_codes::refused(c, Refusal::ShortBuffer);
+    }
+    if !link_codes::sound(c) {
+        return link_codes::refused(c, Refusal::BadRecord);
+    }
+    if SessionState::GENERATION_LIMIT <= c.clock.generation {
+        return link_codes::refused(c, Refusal::GenerationsExhausted);
+    }
+    if number < 1 {
+        return any_ack(c, list, outbound, queue, number);
+    }
+    if c.outbox.next - 1 < number {
+        return any_ack(c, list, outbound, queue, number);
+    }
+    if c.stage.mode != 0 {
+        return any_ack(c, list, outbound, queue, number);
+    }
+    if c.stage.disposition == 4 {
+        return any_ack(c, list, outbound, queue, number);
+    }
+    let o = c.outbox;
+    let left = outbox::acknowledge(o, outbound, number);
+    let k = c.clock;
+    let clock = acks::acknowledged_clock(k, o.count, left.count);
+    let h = acks::handoff_acknowledged(
+        c.handoff.acknowledged,
+        c.handoff.sent,
+        c.handoff.number,
+        number,
+    );
+    let n = events::request(clock, list, 0);
+    let m = acks::notify_acknowledged(false, true, list, n, number);
+    let answer = link_codes::plain(2, 1, m);
+    let mut r = c;
+    r.outbox = left;
+    r.clock = clock;
+    r.handoff.acknowledged = h;
+    LinkReturned {
+        session: r,
+        answer: answer,
+    }
+}
+
 // A keepalive came in. It changes no session.
 #[no_mangle]
 pub extern "C" fn link_keepalive(c: LinkSession, list: &mut [u64]) -> LinkAnswer
     ensures { λ x. ⌜ DrivenTold c x (λ s y. ToldWithList gets-keepalive s (now (list .entry)) y (now (list .exit))) ⌝ }
 {
-    let s = link_codes::opened(c);
-    let r = acks::receive_keepalive(s, list);
-    link_codes::told(r)
+    if list.len() < SessionState::EVENT_WORDS {
+        let a = Answer::Refused(Refusal::ShortBuffer);
+        return link_codes::answer_of(a, 0);
+    }
+    if !link_codes::sound(c) {
+        let a = Answer::Refused(Refusal::BadRecord);
+        return link_codes::answer_of(a, 0);
+    }
+    events::emit(list, 0, 5, 0, 0, 0);
+    let v = c.retry;
+    let n = numbers::list_all(v, list, 1);
+    link_codes::plain(2, 1, n)
 }
 
 // ---- setup and its end

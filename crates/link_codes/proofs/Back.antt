@@ -12,6 +12,7 @@ use Rattle.rules.specs.declared.Setup.{Setup}
 use Rattle.rules.specs.declared.Terms.{Terms}
 use Rattle.rules.specs.Lists.{if_then_else_}
 use Rattle.rules.specs.Receiving.{mode-of}
+use Rattle.rules.specs.State.{is-raw}
 use Rattle.rules.proofs.Lists.{and-left, and-right}
 use Rattle.peer_session.specs.declared.Stage.{Stage}
 use Rattle.peer_session.specs.declared.SessionState.{SessionState}
@@ -142,3 +143,15 @@ module _ (c : LinkSession) where
       let d : stageOf (c .stage) .disposition ≤ 4 = leb-true _ 4 (and-left (leb (stageOf (c .stage) .disposition) 4) _ f) in
       let k : stageOf (c .stage) .disposition ≡ 255 = ap (λ (g : Stage). g .disposition) (if-false (good-codes (c .stage)) (good-stage (c .stage)) (bad-stage (c .stage)) h) in
       absurd (omega arith))
+
+-- ---- what the codes of a struct with good ones say
+
+module _ (g : LinkStage) (e : good-codes g ≡ true) where
+  pub raw-code : g .mode ≡ 0 → true ≡ is-raw (stageOf g .mode)
+  raw-code h =
+      let a : true ≡ is-raw (mode-of (g .mode)) = rw (eq-eqb (g .mode) 0 h) in
+      a ∙ sym (ap (λ (s : Stage). is-raw (s .mode)) (if-true (good-codes g) (good-stage g) (bad-stage g) e))
+
+  pub other-disposition : (n : ℕ) → (g .disposition ≡ n → ⊥) → eqb (stageOf g .disposition) n ≡ false
+  other-disposition n h =
+      ap (λ (s : Stage). eqb (s .disposition) n) (if-true (good-codes g) (good-stage g) (bad-stage g) e) ∙ ne-eqb (g .disposition) n h
