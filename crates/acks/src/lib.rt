@@ -36,7 +36,7 @@ fn list_if(goes: bool, list: &mut [u64], n: usize, code: u64, number: u64) -> us
     n
 }
 
-fn is_raw(mode: ReceiveMode) -> bool
+pub fn is_raw(mode: ReceiveMode) -> bool
     ensures { λ r. ⌜ r ≡ is-raw mode ⌝ }
 {
     match mode {
@@ -49,7 +49,7 @@ fn is_raw(mode: ReceiveMode) -> bool
 }
 
 // The generation is raised where a message went.
-fn acknowledged_clock(c: Clock, before: usize, after: usize) -> Clock
+pub fn acknowledged_clock(c: Clock, before: usize, after: usize) -> Clock
     requires { ⌜ c .generation < 4294966000 ⌝ }
     ensures { λ r. ⌜ r ≡ clockAfter (eqb after before) c ⌝ }
 {
@@ -63,7 +63,7 @@ fn acknowledged_clock(c: Clock, before: usize, after: usize) -> Clock
 }
 
 // Whether a handoff is acknowledged after an ack: only one that was sent is, with its number.
-fn handoff_acknowledged(before: bool, sent: bool, handoff: u64, number: u64) -> bool
+pub fn handoff_acknowledged(before: bool, sent: bool, handoff: u64, number: u64) -> bool
     ensures { λ r. ⌜ r ≡ (before || (sent && leb handoff number)) ⌝ }
 {
     if before {
@@ -98,7 +98,13 @@ fn acknowledge(s: SessionState, outbound: &mut [u8], number: u64) -> SessionStat
 }
 
 // Code 4 where a rejection is complete, then code 3 in Raw mode.
-fn notify_acknowledged(complete: bool, raw: bool, list: &mut [u64], n: usize, number: u64) -> usize
+pub fn notify_acknowledged(
+    complete: bool,
+    raw: bool,
+    list: &mut [u64],
+    n: usize,
+    number: u64,
+) -> usize
     requires { ⌜ 4 * n + 8 ≤ length (now list) ⌝ }
     ensures { λ r. ⌜ Listed (notices number complete raw) (now (list .entry)) n (now (list .exit)) r ⌝ }
 {
@@ -204,7 +210,7 @@ pub fn receive_keepalive(s: SessionState, list: &mut [u64]) -> Told
 // ---- a report of a send
 
 // Whether a handoff's own frame has the number.
-fn own_frame(present: bool, handoff: u64, number: u64) -> bool
+pub fn own_frame(present: bool, handoff: u64, number: u64) -> bool
     ensures { λ r. ⌜ r ≡ (present && eqb handoff number) ⌝ }
 {
     if !present {
@@ -255,7 +261,7 @@ fn ack_sent(s: SessionState, number: u64) -> Returned
 }
 
 // Whether a number would be a 513th.
-fn retries_full(v: Numbers, number: u64) -> bool
+pub fn retries_full(v: Numbers, number: u64) -> bool
     requires { ⌜ v .count ≤ 512 ⌝ }
     ensures { λ r. ⌜ r ≡ fullOf number v ⌝ }
 {

@@ -40,7 +40,7 @@ pub fn refusal_number(x: Refusal) -> u64
     }
 }
 
-fn flag_value(b: bool) -> u64
+pub fn flag_value(b: bool) -> u64
     ensures { λ r. ⌜ r ≡ flag-value b ⌝ }
 {
     if b { 1 } else { 0 }

@@ -30,7 +30,7 @@ pub fn prepare_commit(s: SessionState) -> Answer
 // ---- completing
 
 // Persisted raises the persisted generation to the larger.
-fn persisted_by(c: Clock, commit: PreparedCommit, persisted: bool) -> Clock
+pub fn persisted_by(c: Clock, commit: PreparedCommit, persisted: bool) -> Clock
     ensures { λ r. ⌜ Persists persisted commit c r ⌝ }
 {
     if !persisted {
@@ -82,7 +82,7 @@ fn release_by(s: SessionState, list: &mut [u64], commit: PreparedCommit) -> Rele
 }
 
 // The Rust's `Committed`, code 6.
-fn notify_committed(persisted: bool, list: &mut [u64], n: usize) -> usize
+pub fn notify_committed(persisted: bool, list: &mut [u64], n: usize) -> usize
     requires { ⌜ 4 * n + 4 ≤ length (now list) ⌝ }
     ensures { λ r. ⌜ Listed (notices persisted) (now (list .entry)) n (now (list .exit)) r ⌝ }
 {

@@ -14,6 +14,7 @@ ghost use Rattle.rules.specs.Sound.{at-most, ascending};
 ghost use Rattle.events.specs.Written.{Listed};
 ghost use Rattle.numbers.specs.Seats.{inUse, seatOf, step, Holds, ReleasesAcks};
 
+#[repr(C)]
 pub struct Numbers {
     pub values: [u64; 512],
     pub count: usize,

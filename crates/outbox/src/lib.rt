@@ -13,6 +13,7 @@ ghost use Rattle.outbox.specs.Records.{survivesU, releasesU, releasedU, 
 ghost use Rattle.outbox.specs.Steps.{Room, Appended, Left, Flagged, SentIf, Releases, Replays};
 ghost use Rattle.outbox.specs.Sweeps.{Sweeping, Swept};
 
+#[repr(C)]
 pub struct Unacked {
     pub number: u32,
     pub len: u32,
@@ -23,6 +24,7 @@ pub struct Unacked {
 }
 
 // The number that the next message gets (`message_number`), and the records in use.
+#[repr(C)]
 pub struct Outbox {
     pub next: u64,
     pub records: [Unacked; 256],

@@ -33,6 +33,7 @@ pub struct Stage {
 }
 
 // The Rust's `Option<TerminalHandoff>`: one that is not present is none, whatever its other fields.
+#[repr(C)]
 pub struct TerminalHandoff {
     pub body: [u8; 4096],
     pub len: usize,
@@ -44,6 +45,7 @@ pub struct TerminalHandoff {
 }
 
 // The body of a rejection, 1 to 64 bytes.
+#[repr(C)]
 pub struct RejectBody {
     pub bytes: [u8; 64],
     pub len: usize,

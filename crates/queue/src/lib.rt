@@ -11,12 +11,14 @@ ghost use Rattle.queue.specs.Sound.{admitsQueued, soundQueued, soundQueu
 ghost use Rattle.queue.specs.Steps.{arrived, Leads, Room, Enters, with-at};
 use rules::Policy;
 
+#[repr(C)]
 pub struct Queued {
     pub number: u64,
     pub len: u16,
     pub kind: u8,
 }
 
+#[repr(C)]
 pub struct Queue {
     pub records: [Queued; 256],
     pub count: usize,

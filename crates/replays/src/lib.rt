@@ -27,7 +27,7 @@ fn noted(s: SessionState) -> Returned
 }
 
 // Whether the clock holds a replay back that is not forced.
-fn too_soon(time: f64, last: f64, force: bool) -> bool
+pub fn too_soon(time: f64, last: f64, force: bool) -> bool
     ensures { λ r. ⌜ r ≡ (not force && held-back time last) ⌝ }
 {
     if force {

@@ -17,6 +17,7 @@ use session::Returned;
 use starts::Reliable;
 
 // The Rust's `Option<TerminalHandoff>` but for its body, which comes as a lent slice: one that is not present is none, whatever its other fields.
+#[repr(C)]
 pub struct Handoff {
     pub present: bool,
     pub id: u64,

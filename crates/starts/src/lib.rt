@@ -21,6 +21,7 @@ use rules::Refusal;
 use session::Returned;
 
 // The Rust's `ReliableState` but for its messages, which come as lent slices.
+#[repr(C)]
 pub struct Reliable {
     pub message_number: u64,
     pub remote_number: u64,

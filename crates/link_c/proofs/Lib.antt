@@ -1,0 +1,3 @@
+-- The laws of link_c.
+pub mod Drives
+pub mod Changes

@@ -1,0 +1,2 @@
+-- What the contracts of `link_c` cite.
+pub mod Driven

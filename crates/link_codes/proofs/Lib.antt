@@ -1,0 +1,3 @@
+-- The laws of link_codes.
+pub mod Codes
+pub mod Back
