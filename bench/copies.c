@@ -6,12 +6,11 @@
 void *__real_memcpy(void *, const void *, size_t);
 void *__real_memmove(void *, const void *, size_t);
 static size_t bytes, times;
-extern char __executable_start, etext;
 
-/* this file's own copies of arguments are C's, not the library's */
-static char *first_of_library;
+/* This program's own copies of arguments and results are C's, not the library's: main stands in a section of its own, whose ends the linker names. */
+extern char __start_hostcode, __stop_hostcode;
 static void note(size_t n, char *from) {
-    if (n >= 1000 && from >= first_of_library) {
+    if (n >= 1000 && (from < &__start_hostcode || from >= &__stop_hostcode)) {
         bytes += n;
         times += 1;
     }
@@ -43,16 +42,9 @@ static link_answer a;
 #define SEND(n) link_send(r.session, LIST, OUT, body, n)
 #define DATA(k, n) link_data(r.session, LIST, DELIVERY, OUT, QUEUE, (link_status){true, false, false}, k, 0, body, n)
 
-int main(void) {
+__attribute__((section("hostcode"))) int main(void) {
     static uint8_t body[4096];
     uint64_t none[1] = {0};
-    first_of_library = (char *)&main;
-    char *firsts[] = {(char *)&link_send, (char *)&link_start, (char *)&link_data, (char *)&link_accept};
-    first_of_library = firsts[0];
-    for (int i = 1; i < 4; i++) if (firsts[i] < first_of_library) first_of_library = firsts[i];
-    /* helpers of the library stand before its exports; nothing of this file stands between */
-    first_of_library -= 65536;
-    if (first_of_library < (char *)&main + 8192 && (char *)&main < firsts[0]) first_of_library = (char *)&main + 8192;
     printf("| call | copies | bytes | sessions |\n|---|---|---|---|\n");
     SHOW("start", r = link_start((link_reliable){1, 0, 0}, none, 0, none, 0, body, 0, link_class(2).policy, body, 3, OUT, QUEUE));
     SHOW("send, 16 bytes", r = SEND(16));
