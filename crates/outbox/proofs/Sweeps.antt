@@ -1,12 +1,12 @@
 -- A turn of a sweep, and its end. Assumes nothing.
-use mathlib.Core.Path.{_≡_, refl, sym, ap, _∙_}
+use mathlib.Core.Path.{_≡_, refl, sym, ap, _∙_, subst}
 use mathlib.Core.Bool.{Bool, true, false}
 use mathlib.Core.List.{List, [], _∷_, _++_, append-assoc, append-nil}
 use Prim.Native.Nat.{ℕ, _+_, _-_, _≤_, _<_}
 use native.Mathlib.Omega.{arith}
 use native.Mathlib.Nat.{zero-add}
 use lib.ListN.{length, take, drop, getD, set, replicate, length-take, length-drop, length-replicate, length-set, take-append-drop}
-use lib.Seq.{slice, drop-drop, length-take-le, take-at}
+use lib.Seq.{slice, drop-drop, length-take-le, take-at, take-set-le}
 use Rattle.stores.specs.Packed.{cut}
 use Rattle.rules.specs.Buffers.{repacked}
 use Rattle.stores.specs.Placed.{placed}
@@ -18,11 +18,10 @@ use Rattle.rules.specs.State.{body-of}
 use Rattle.rules.specs.Acks.{survives}
 use Rattle.outbox.specs.declared.Unacked.{Unacked}
 use Rattle.outbox.specs.declared.Outbox.{Outbox}
-use Rattle.outbox.specs.declared.Sweep.{Sweep}
 use Rattle.outbox.specs.View.{lenU, unacked, unackedOf, endU, blankU, ExactOutbox}
 use Rattle.outbox.specs.Records.{survivesU}
 use Rattle.outbox.specs.Steps.{Left}
-use Rattle.outbox.specs.Sweeps.{stay, todo, ends, left, Sweeping, Swept}
+use Rattle.outbox.specs.Sweeps.{Sweep, Lowers, stay, todo, ends, left, Sweeping, Swept}
 
 -- a body that is in its place
 pub placed-same : (s : Bytes) (i n : ℕ) → i + n ≤ length s → s ≡ placed s i (take n (drop i s))
@@ -78,15 +77,38 @@ module _ (ack : ℕ) (w : Sweep) (n : ℕ) (s : Bytes) (g : Sweeping w n (length
   unfolding rest
   first-in e = ap (kept (survives ack)) first ∙ kept-in (survives ack) (unacked one body) _ e
 
-  pub passed : survivesU ack one ≡ false
-      → Swept ack n w s (record { records = w .records; kept = w .kept; next = w .next + 1; to = w .to; from = w .from + one .len }) s
+  -- the records once this one is written where it goes if it stays
+  abbrev written : List Unacked
+  written = set (w .records) (w .kept) one
+
+  todos : slice (w .next + 1) n written ≡ slice (w .next + 1) n (w .records)
+  todos = slice-set (w .records) (w .kept) one (w .next + 1) n (omega arith) (omega arith)
+
+  stood : take (w .kept) written ≡ stay w
+  stood = take-set-le (w .kept) (w .records) (w .kept) one (omega arith)
+
+  passed : survivesU ack one ≡ false
+      → Swept ack n w s (record { records = written; kept = w .kept; next = w .next + 1; to = w .to; from = w .from + one .len }) s
   unfolding left rest
   passed e =
       let z : total lenU (todo w n) ≡ one .len + total lenU (slice (w .next + 1) n (w .records)) = size in
+      let zn : total lenU (slice (w .next + 1) n written) ≡ total lenU (slice (w .next + 1) n (w .records)) = ap (total lenU) todos in
       record {
-        sweeping = record { full = g .full; few = g .few; order = omega arith; within = omega arith; front = g .front; down = omega arith; room = omega arith };
+        sweeping =
+            record {
+              full = length-set (w .records) (w .kept) one ∙ g .full;
+              few = g .few;
+              order = omega arith;
+              within = omega arith;
+              front = ap (total lenU) stood ∙ g .front;
+              down = omega arith;
+              room = omega arith;
+            };
         step = refl;
-        same = ap (λ (l : List R.Unacked). cut lenU unacked (stay w) s ++ l) (sym (first-out e));
+        same =
+            ap (λ (l : List Unacked). cut lenU unacked l s ++ kept (survives ack) (cut lenU unacked (slice (w .next + 1) n written) (drop (w .from + one .len) s))) stood
+            ∙ ap (λ (l : List Unacked). cut lenU unacked (stay w) s ++ kept (survives ack) (cut lenU unacked l (drop (w .from + one .len) s))) todos
+            ∙ ap (λ (l : List R.Unacked). cut lenU unacked (stay w) s ++ l) (sym (first-out e));
         ending = omega arith;
         past = refl;
       }
@@ -94,7 +116,7 @@ module _ (ack : ℕ) (w : Sweep) (n : ℕ) (s : Bytes) (g : Sweeping w n (length
   -- the records and the store once the record and its body have moved down
   module _ (s′ : Bytes) (es : s′ ≡ placed s (w .to) body) where
     abbrev next : Sweep
-    next = record { records = set (w .records) (w .kept) one; kept = w .kept + 1; next = w .next + 1; to = w .to + one .len; from = w .from + one .len }
+    next = record { records = written; kept = w .kept + 1; next = w .next + 1; to = w .to + one .len; from = w .from + one .len }
 
     size-body : length body ≡ one .len
     size-body =
@@ -108,9 +130,6 @@ module _ (ack : ℕ) (w : Sweep) (n : ℕ) (s : Bytes) (g : Sweeping w n (length
 
     stays : stay next ≡ stay w ++ (one ∷ [])
     stays = take-set-snoc (w .records) (w .kept) one (omega arith)
-
-    todos : todo next n ≡ slice (w .next + 1) n (w .records)
-    todos = slice-set (w .records) (w .kept) one (w .next + 1) n (omega arith) (omega arith)
 
     front : total lenU (stay next) ≡ w .to + one .len
     front = ap (total lenU) stays ∙ total-snoc lenU (stay w) one ∙ ap (λ (k : ℕ). k + one .len) (g .front)
@@ -147,7 +166,7 @@ module _ (ack : ℕ) (w : Sweep) (n : ℕ) (s : Bytes) (g : Sweeping w n (length
         ap (λ (l : List Unacked). kept (survives ack) (cut lenU unacked l (drop (w .from + one .len) s′))) todos
         ∙ ap (λ (x : Bytes). kept (survives ack) (cut lenU unacked (slice (w .next + 1) n (w .records)) x)) (after (w .from + one .len) (omega arith))
 
-    pub stayed : survivesU ack one ≡ true → Swept ack n w s next s′
+    stayed : survivesU ack one ≡ true → Swept ack n w s next s′
     unfolding left
     stayed e =
         let z : total lenU (todo w n) ≡ one .len + total lenU (slice (w .next + 1) n (w .records)) = size in
@@ -164,6 +183,32 @@ module _ (ack : ℕ) (w : Sweep) (n : ℕ) (s : Bytes) (g : Sweeping w n (length
           ending = omega arith;
           past = after (ends w n) (omega arith);
         }
+
+  -- by whether the record stays
+  pub swept : (b : Bool) {s′ : Bytes} {e k : ℕ} → survivesU ack one ≡ b → s′ ≡ (if b then placed s (w .to) body else s)
+      → e ≡ (if b then w .to + one .len else w .to) → k ≡ (if b then w .kept + 1 else w .kept)
+      → Swept ack n w s (record { records = written; kept = k; next = w .next + 1; to = e; from = w .from + one .len }) s′
+  swept true {s′} {e} {k} is es ee ek = subst (λ (x : ℕ). Swept ack n w s (record { records = written; kept = x; next = w .next + 1; to = e; from = w .from + one .len }) s′) (sym ek)
+      (subst (λ (x : ℕ). Swept ack n w s (record { records = written; kept = w .kept + 1; next = w .next + 1; to = x; from = w .from + one .len }) s′) (sym ee) (stayed s′ es is))
+  swept false {s′} {e} {k} is es ee ek = subst (λ (x : ℕ). Swept ack n w s (record { records = written; kept = x; next = w .next + 1; to = e; from = w .from + one .len }) s′) (sym ek)
+      (subst (λ (x : ℕ). Swept ack n w s (record { records = written; kept = w .kept; next = w .next + 1; to = x; from = w .from + one .len }) s′) (sym ee)
+      (subst (λ (x : Bytes). Swept ack n w s (record { records = written; kept = w .kept; next = w .next + 1; to = w .to; from = w .from + one .len }) x) (sym es) (passed is)))
+
+-- a body that is moved down, by whether its record stays
+module _ (b : Bool) (to from n : ℕ) (s : Bytes) where
+  pub lowered : {s′ : Bytes} → b ≡ true → s′ ≡ placed s to (take n (drop from s)) → Lowers b to from n s s′ (to + n)
+  lowered e h =
+      record {
+        store = h ∙ sym (ap (λ (t : Bool). if t then placed s to (take n (drop from s)) else s) e);
+        end = sym (ap (λ (t : Bool). if t then to + n else to) e);
+      }
+
+  pub not-lowered : b ≡ false → Lowers b to from n s s to
+  not-lowered e =
+      record {
+        store = sym (ap (λ (t : Bool). if t then placed s to (take n (drop from s)) else s) e);
+        end = sym (ap (λ (t : Bool). if t then to + n else to) e);
+      }
 
 -- what the loop keeps that sweeps from w₀ and s₀ on
 pub record Turns (ack n : ℕ) (w₀ : Sweep) (s₀ : Bytes) (w : Sweep) (s : Bytes) : Type 0 where

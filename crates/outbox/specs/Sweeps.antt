@@ -1,16 +1,30 @@
 -- A sweep over the records, which drops some and moves the others down: what it keeps from turn to turn. Assumes nothing.
 use Prim.Native.Nat.{ℕ, _+_, _≤_}
 use mathlib.Core.Path.{_≡_}
+use mathlib.Core.Bool.{Bool, true, false}
 use mathlib.Core.List.{List, _++_}
 use lib.ListN.{length, take, drop}
 use lib.Seq.{slice}
 use Rattle.stores.specs.Packed.{cut}
-use Rattle.rules.specs.Lists.{Bytes, kept, total}
+use Rattle.stores.specs.Placed.{placed}
+use Rattle.rules.specs.Lists.{Bytes, if_then_else_, kept, total}
 use Rattle.rules.specs.State as R
 use Rattle.rules.specs.Acks.{survives}
 use Rattle.outbox.specs.declared.Unacked.{Unacked}
-use Rattle.outbox.specs.declared.Sweep.{Sweep}
 use Rattle.outbox.specs.View.{lenU, unacked}
+
+-- the records, how many of them stay and how many were looked at, and where bodies go to and come from
+pub record Sweep : Type 0 where
+  pub records : List Unacked
+  pub kept : ℕ
+  pub next : ℕ
+  pub to : ℕ
+  pub from : ℕ
+
+-- a body moves down if its record stays
+pub record Lowers (stays : Bool) (to from n : ℕ) (s s′ : Bytes) (r : ℕ) : Type 0 where
+  pub store : s′ ≡ (if stays then placed s to (take n (drop from s)) else s)
+  pub end : r ≡ (if stays then to + n else to)
 
 -- the records that stay so far, and those still to be looked at
 abbrev pub stay : Sweep → List Unacked

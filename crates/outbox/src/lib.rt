@@ -11,7 +11,7 @@ ghost use Rattle.outbox.specs.View.{endU, usedU, unackedOf, ExactOutbox}
 ghost use Rattle.outbox.specs.Sound.{admitsUnacked, soundUnacked, soundOutbox};
 ghost use Rattle.outbox.specs.Records.{survivesU, releasesU, releasedU, sentU, placeU};
 ghost use Rattle.outbox.specs.Steps.{Room, Appended, Left, Flagged, SentIf, Releases, Replays};
-ghost use Rattle.outbox.specs.Sweeps.{Sweeping, Swept};
+ghost use Rattle.outbox.specs.Sweeps.{Lowers};
 
 #[repr(C)]
 pub struct Unacked {
@@ -41,16 +41,6 @@ pub struct Released {
 pub enum Place {
     At { start: usize, len: usize },
     Nowhere,
-}
-
-// The records while they are swept: those before index kept stay, and their bodies end at index to; those from index next on are still to be
-// looked at, and their bodies start at index from.
-pub struct Sweep {
-    pub records: [Unacked; 256],
-    pub kept: usize,
-    pub next: usize,
-    pub to: usize,
-    pub from: usize,
 }
 
 // ---- whether an outbox is one that calls leave
@@ -169,28 +159,26 @@ fn lower(store: &mut [u8], to: usize, from: usize, n: usize)
     stores::move_down(store, to, from, n);
 }
 
-// Looks at one record: keeps it, and moves it and its body down, or passes over it.
-fn sweep_one(w: Sweep, count: usize, store: &mut [u8], ack: u64) -> Sweep
-    requires { ⌜ (Sweeping w count (length (now store))) × (w .next < count) ⌝ }
-    ensures { λ r. ⌜ Swept ack count w (now (store .entry)) r (now (store .exit)) ⌝ }
+// Where the body of the next record goes, by whether this one stays: if so, its body has moved down.
+fn lower_if(stays: bool, store: &mut [u8], to: usize, from: usize, n: usize) -> usize
+    requires { ⌜ (to ≤ from) × (from + n ≤ length (now store)) ⌝ }
+    ensures { λ r. ⌜ Lowers stays to from n (now (store .entry)) (now (store .exit)) r ⌝ }
 {
-    let i = w.next;
-    let k = w.kept;
-    let to = w.to;
-    let from = w.from;
-    let u = w.records[i];
-    let n = u.len as usize;
-    let mut r = w;
-    r.next = i + 1;
-    r.from = from + n;
-    if keeps(u, ack) {
+    if stays {
         lower(store, to, from, n);
-        r.records[k] = u;
-        r.kept = k + 1;
-        r.to = to + n;
-        return r;
+        return to + n;
     }
-    r
+    to
+}
+
+fn count_if(stays: bool, n: usize) -> usize
+    requires { ⌜ n ≤ 256 ⌝ }
+    ensures { λ r. ⌜ r ≡ (if stays then n + 1 else n) ⌝ }
+{
+    if stays {
+        return n + 1;
+    }
+    n
 }
 
 // The Rust's `acknowledge`: messages up to ack go, except those pending or unsent. One pass; the freed tail is cleared once.
@@ -199,27 +187,26 @@ pub fn acknowledge(o: Outbox, store: &mut [u8], ack: u64) -> Outbox
     ensures { λ r. ⌜ Left o (now (store .entry)) (kept (survives ack) (unackedOf o (now (store .entry)))) r (now (store .exit)) ⌝ }
 {
     let count = o.count;
-    let records = o.records;
-    let mut w = Sweep {
-        records: records,
-        kept: 0,
-        next: 0,
-        to: 0,
-        from: 0,
-    };
-    while w.next < count {
-        let r = sweep_one(w, count, store, ack);
-        w = r;
+    let mut r = o;
+    let mut k = 0;
+    let mut to = 0;
+    let mut from = 0;
+    let mut i = 0;
+    while i < count {
+        let u = r.records[i];
+        let n = u.len as usize;
+        let stays = keeps(u, ack);
+        let end = lower_if(stays, store, to, from, n);
+        let more = count_if(stays, k);
+        r.records[k] = u;
+        k = more;
+        to = end;
+        from += n;
+        i += 1;
     }
-    let to = w.to;
-    let from = w.from;
     stores::clear(store, to, from);
-    let left = w.records;
-    Outbox {
-        next: o.next,
-        records: left,
-        count: w.kept,
-    }
+    r.count = k;
+    r
 }
 
 // All messages go.
