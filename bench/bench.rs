@@ -112,12 +112,12 @@ fn policy() -> ReceivePolicy {
     // class 3
     ReceivePolicy { max_future_reliable_msgno_gap: 256, max_queued_messages: 256, max_queued_bytes: 32768, max_peer_body_bytes: 16384 }
 }
-fn their_start(next: u64, messages: &[(u64, &[u8])]) -> Theirs {
+fn their_record(next: u64, messages: &[(u64, &[u8])]) -> ReliableState {
     let unacked_messages = messages.iter().map(|m| Message { msgno: m.0, msg: m.1.to_vec() }).collect();
-    Session::new(
-        ReliableState { session_id: String::new(), message_number: next, remote_number: 0, unacked_messages, disposition: "other".into() },
-        policy(),
-    )
+    ReliableState { session_id: String::new(), message_number: next, remote_number: 0, unacked_messages, disposition: "other".into() }
+}
+fn their_start(next: u64, messages: &[(u64, &[u8])]) -> Theirs {
+    Session::new(their_record(next, messages), policy())
 }
 fn our_start(next: u64, messages: &[(u64, &[u8])]) -> Link {
     Link::start(3, Reliable { message_number: next, remote_number: 0, disposition: 0 }, messages, b"no")
@@ -182,6 +182,19 @@ impl Link {
         assert!(self.returned.answer.refusal == 0);
     }
 }
+impl Link {
+    fn restore(&mut self, next: u64, numbers: &[u64], lengths: &[u64], bodies: &[u8]) {
+        let record = Reliable { message_number: next, remote_number: 0, disposition: 0 };
+        let given = link::Given { present: false, id: 0, number: 0, sent: false, acknowledged: false };
+        self.returned = unsafe {
+            link::link_restore(
+                self.returned.session, self.outbound.as_mut_ptr(), self.outbound.len(), record, numbers.as_ptr(), numbers.len(), lengths.as_ptr(),
+                lengths.len(), bodies.as_ptr(), bodies.len(), given, bodies.as_ptr(), 0,
+            )
+        };
+        assert!(self.returned.answer.refusal == 0);
+    }
+}
 trait ReportAll {
     fn report_all(&mut self, events: usize);
 }
@@ -229,8 +242,9 @@ struct Row {
     /// done before the clock starts, and under it
     before: Box<dyn Fn(&mut dyn End)>,
     list: Box<dyn Fn(&mut dyn End)>,
-    /// a start is what is measured
-    start: Option<usize>,
+    /// a start is what is measured, or a restore
+    start: bool,
+    restore: bool,
     /// acks that were not accepted, before
     retries: u64,
     /// single calls, where the heap wins
@@ -240,7 +254,7 @@ struct Row {
 static BODY: [u8; 4096] = [0x5a; 4096];
 
 fn row(name: &str, calls: usize, bytes: usize, before: impl Fn(&mut dyn End) + 'static, list: impl Fn(&mut dyn End) + 'static) -> Row {
-    Row { name: name.into(), calls, bytes, before: Box::new(before), list: Box::new(list), start: None, retries: 0, small: calls < 8 }
+    Row { name: name.into(), calls, bytes, before: Box::new(before), list: Box::new(list), start: false, restore: false, retries: 0, small: calls < 8 }
 }
 
 fn held(count: u64, length: usize) -> impl Fn(&mut dyn End) {
@@ -304,8 +318,11 @@ fn rows() -> Vec<Row> {
     keepalive.retries = 512;
     rows.push(keepalive);
     let mut start = row("start from a record of 256 messages of 240 bytes", 1, 256 * 240 + 32768, |_| {}, |_| {});
-    start.start = Some(240);
+    start.start = true;
     rows.push(start);
+    let mut restore = row("restore of 256 messages of 240 bytes", 1, 256 * 240, |_| {}, |_| {});
+    restore.restore = true;
+    rows.push(restore);
     rows
 }
 
@@ -377,7 +394,10 @@ fn main() {
             (row.before)(&mut link);
             (row.before)(&mut session);
             let (a, b, c);
-            if row.start.is_some() {
+            if row.restore {
+                a = nanoseconds(|| link.restore(300, &numbers, &lengths, &bodies));
+                b = nanoseconds(|| session.restore(their_record(300, &messages), None).unwrap());
+            } else if row.start {
                 // into the buffers that are there, as a device has them
                 a = nanoseconds(|| link.start_again(300, &numbers, &lengths, &bodies));
                 let mut made = None;

@@ -60,6 +60,14 @@ pub struct Stage {
 }
 #[repr(C)]
 #[derive(Clone, Copy)]
+pub struct Given {
+    pub present: bool,
+    pub id: u64,
+    pub number: u64,
+    pub sent: bool,
+    pub acknowledged: bool,
+}
+#[derive(Clone, Copy)]
 pub struct Handoff {
     pub body: [u8; 4096],
     pub len: usize,
@@ -147,6 +155,10 @@ extern "C" {
     pub fn link_start(
         record: Reliable, numbers: *const u64, numbers_len: usize, lengths: *const u64, lengths_len: usize, bodies: *const u8, bodies_len: usize,
         policy: Policy, reject: *const u8, reject_len: usize, outbound: *mut u8, outbound_len: usize, queue: *mut u8, queue_len: usize,
+    ) -> Returned;
+    pub fn link_restore(
+        s: Session, outbound: *mut u8, outbound_len: usize, record: Reliable, numbers: *const u64, numbers_len: usize, lengths: *const u64,
+        lengths_len: usize, bodies: *const u8, bodies_len: usize, given: Given, body: *const u8, body_len: usize,
     ) -> Returned;
     pub fn link_send(s: Session, list: *mut u64, list_len: usize, outbound: *mut u8, outbound_len: usize, body: *const u8, body_len: usize) -> Returned;
     pub fn link_prepare(s: Session) -> Answer;
