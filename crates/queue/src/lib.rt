@@ -14,7 +14,7 @@ use rules::Policy;
 #[repr(C)]
 pub struct Queued {
     pub number: u64,
-    pub len: u16,
+    pub len: u32,
     pub kind: u8,
 }
 
@@ -181,7 +181,7 @@ pub fn insert_at(q: Queue, store: &mut [u8], at: usize, number: u64, kind: u8, b
     let mut up = shift_up(records, at, count);
     let u = Queued {
         number: number,
-        len: n as u16,
+        len: n as u32,
         kind: kind,
     };
     up[at] = u;

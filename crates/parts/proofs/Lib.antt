@@ -1,0 +1,2 @@
+-- Laws on the parts of a session.
+pub mod Seats
