@@ -3,3 +3,4 @@ pub mod Seats
 pub mod Fields
 pub mod Opened
 pub mod Drives
+pub mod After

@@ -1,0 +1,2 @@
+-- A send on the parts of a session is the driver's.
+pub mod Sends

@@ -1,0 +1,109 @@
+-- A send on the parts of a session, by what it leaves of them. Assumes nothing.
+use Prim.Native.Nat.{ℕ, _+_, _≤_, _<_}
+use mathlib.Core.Path.{_≡_, refl, sym, ap, _∙_, subst}
+use mathlib.Core.Bool.{true, false}
+use mathlib.Core.List.{List}
+use native.Mathlib.Omega.{arith}
+use lib.Ieee.{Float}
+use lib.ListN.{length, set, length-set}
+use lib.Seq.{getD-set-same}
+use Rattle.rules.specs.declared.Answer.the-variants.{Number, Refused}
+use Rattle.rules.specs.declared.Refusal.{Refusal}
+use Rattle.rules.specs.declared.Refusal.the-variants.{ShortBuffer, BadRecord, GenerationsExhausted}
+use Rattle.rules.specs.declared.Clock.{Clock}
+use Rattle.rules.specs.Lists.{Bytes}
+use Rattle.rules.specs.Calls.{sends}
+use Rattle.events.specs.declared.Stop.the-variants.{No, By}
+use Rattle.events.specs.Written.{Listed, asked}
+use Rattle.peer_session.specs.declared.SessionState.{SessionState}
+use Rattle.peer_session.specs.Sound.{soundOf, Full}
+use Rattle.session.specs.Promise.{CalledWithOutbound}
+use Rattle.sending.proofs.Sends as S
+use Rattle.parts.specs.declared.LinkAnswer.{LinkAnswer}
+use Rattle.parts.specs.Codes.{answerOf}
+use Rattle.parts.specs.Parts.{Parts, parts, at, outboxIn, waitingIn, retryIn, clockIn, handoffIn, openedOf}
+use Rattle.parts.specs.Frames.{Past}
+use Rattle.parts.specs.Driven.{Driven}
+use Rattle.parts.proofs.Fields.{Agree, agree-past, agree-set, agree-then, outbox-same, numbers-same, handoff-same}
+use Rattle.parts.proofs.After.{Kept, other, after, agree-all}
+use Rattle.parts.proofs.Drives.{changes, refuses}
+use Rattle.link_sending.specs.Sends.{Ready, Turns, AllocatesIn}
+
+module _ (w h b : List ℕ) (t : Float) (l : List ℕ) (o body : Bytes) (lh : 772 ≤ length h) (lw : 1296 ≤ length w) (lb : 4936 ≤ length b) where
+  module _ (ready : Ready (parts w h b t) (length l) (length o)) (w′ h′ b′ : List ℕ) (o′ : Bytes) (a : AllocatesIn body w h b o No w′ h′ b′ o′) where
+    -- the halves with the generation raised
+    abbrev raised : List ℕ
+    raised = set h′ 768 (at h 768 + 1)
+
+    agrees : (c d : ℕ) → 512 ≤ c → (c ≤ 768 → 768 < d → ⊥) → Agree c d h raised
+    agrees c d k out = agree-then (agree-past c d k (a .halves)) (agree-set h′ 768 (at h 768 + 1) c d out)
+
+    clock-raised : clockIn raised t ≡ record { «last_replay_at» = t; generation = at h 768 + 1; released = at h 769; persisted = at h 770 }
+    clock-raised =
+        let x : at raised 768 ≡ at h 768 + 1 = getD-set-same h′ 768 (at h 768 + 1) 0 (omega (arith, a .halves .size)) in
+        let g : Agree 769 771 h raised = agrees 769 771 (omega arith) (λ p q. omega arith) in
+        let y : at raised 769 ≡ at h 769 = g .same 769 (omega arith) (omega arith) in
+        let z : at raised 770 ≡ at h 770 = g .same 770 (omega arith) (omega arith) in
+        rw (x, y, z)
+
+    stays : Kept w h b w′ raised b′
+    stays =
+        record {
+          words = a .words .size;
+          bytes = a .bytes .size;
+          remote = agree-past 2 3 (omega arith) (a .words);
+          queued = agree-past 4 5 (omega arith) (a .words);
+          rest = agree-past 7 272 (omega arith) (a .words);
+          lens = agrees 512 768 (omega arith) (λ p q. omega arith);
+          terms = agrees 771 772 (omega arith) (λ p q. omega arith);
+          codes = agree-past 512 773 (omega arith) (a .bytes);
+          bodies = agree-past 776 4936 (omega arith) (a .bytes);
+        }
+
+    left : openedOf (parts w′ raised b′ t)
+        ≡ other (openedOf (parts w h b t)) (outboxIn w′ h′ b′) (at w 3) (waitingIn w) (retryIn w)
+        (record { «last_replay_at» = t; generation = at h 768 + 1; released = at h 769; persisted = at h 770 }) (handoffIn w b)
+    left =
+        after w h b w′ raised b′ t t lb stays
+        (outbox-same (agree-all 0 2 w′) (agree-set h′ 768 (at h 768 + 1) 0 512 (λ p q. omega arith)) (agree-all 0 512 b′))
+        (a .words .same 3 (omega arith))
+        (numbers-same (omega arith) (a .words .size) (agree-past 5 (5 + 1) (omega arith) (a .words)) (agree-past 272 (272 + 512) (omega arith) (a .words)))
+        (numbers-same (omega arith) (a .words .size) (agree-past 6 (6 + 1) (omega arith) (a .words)) (agree-past 784 (784 + 512) (omega arith) (a .words)))
+        clock-raised
+        (handoff-same (omega arith) (a .bytes .size) (agree-past 7 10 (omega arith) (a .words)) (agree-past 773 4872 (omega arith) (a .bytes)))
+
+    pub went : (l′ : List ℕ) (n : ℕ) → Listed (asked (clockIn raised t)) l 0 l′ n → {y : LinkAnswer} → y ≡ answerOf (Number (at w 0)) n
+        → Driven (parts w h b t) (parts w′ raised b′ t) y (λ s r. CalledWithOutbound (sends body) s l o r l′ o′)
+    unfolding openedOf
+    went l′ n li e =
+        changes (parts w h b t) (ready .sound) (parts w′ raised b′ t) _ left (Number (at w 0)) n e
+        (λ d q lq. S.went (openedOf (parts w h b t)) l o body d q (ready .list) (ready .outbound) (ready .sound) (ready .full) lq (ready .low) (record { outbox = outboxIn w′ h′ b′; stop = No }) o′ (a .allocates) l′ n refl (subst (λ (k : Clock). Listed (asked k) l 0 l′ n) clock-raised li))
+
+  -- a refusal, by the number of messages or the room that is left
+  pub stopped : (ready : Ready (parts w h b t) (length l) (length o)) (x : Refusal) → AllocatesIn body w h b o (By x) w h b o → {y : LinkAnswer} → y ≡ answerOf (Refused x) 0
+      → Driven (parts w h b t) (parts w h b t) y (λ s r. CalledWithOutbound (sends body) s l o r l o)
+  unfolding openedOf
+  stopped ready x k e =
+      refuses (parts w h b t) x e
+      (λ r u d q lq. S.refused (openedOf (parts w h b t)) l o body d q (ready .list) (ready .outbound) (ready .sound) (ready .full) lq (ready .low) (record { outbox = outboxIn w h b; stop = By x }) o (k .allocates) x u refl)
+
+-- ---- the tests
+
+module _ (p : Parts) {n m : ℕ} where
+  pub short-list : n < 4096 → Turns p n m ShortBuffer
+  short-list h = record { call = λ l o b d q el eo lq r t. S.list-short (openedOf p) l o b d q t (omega (arith, el)) }
+
+  pub short-outbound : m < 65536 → Turns p n m ShortBuffer
+  short-outbound h = record { call = λ l o b d q el eo lq r t. S.outbound-short (openedOf p) l o b d q t (omega (arith, eo)) }
+
+  pub unsound : 4096 ≤ n → 65536 ≤ m → soundOf (openedOf p) ≡ false → Turns p n m BadRecord
+  unsound ln lm e = record { call = λ l o b d q el eo lq r t. S.unsound (openedOf p) l o b d q (omega (arith, el)) (omega (arith, eo)) t e }
+
+  pub spent : 4096 ≤ n → 65536 ≤ m → soundOf (openedOf p) ≡ true → Full (openedOf p) → 4294966000 ≤ openedOf p .clock .generation → Turns p n m GenerationsExhausted
+  spent ln lm e full h =
+      record { call = λ l o b d q el eo lq r t. S.exhausted (openedOf p) l o b d q (omega (arith, el)) (omega (arith, eo)) e full lq t h }
+
+-- a refusal by them
+pub turned : (p : Parts) (l : List ℕ) (o body : Bytes) (x : Refusal) → Turns p (length l) (length o) x → {y : LinkAnswer} → y ≡ answerOf (Refused x) 0
+    → Driven p p y (λ s r. CalledWithOutbound (sends body) s l o r l o)
+turned p l o body x k e = refuses p x e (λ r u d q lq. k .call l o body d q refl refl lq r u)

@@ -1,0 +1,2 @@
+-- What the contracts of `link_sending` cite.
+pub mod Sends

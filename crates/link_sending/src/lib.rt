@@ -1,0 +1,1 @@
+// A send on the parts of a session.
