@@ -176,7 +176,7 @@ released {upto} {from} {count} {w₀} {list₀} {n} {w} {list} {m} {k} {i} s h =
 
 -- ---- each of them listed
 
-module _ {from size : ℕ} {w list₀ : List ℕ} {n : ℕ} {list : List ℕ} {i : ℕ} (s : ListingAll (section from 512 w) size list₀ n list i) where
+module _ (from : ℕ) (w : List ℕ) {size : ℕ} {list₀ : List ℕ} {n : ℕ} {list : List ℕ} {i : ℕ} (s : ListingAll (section from 512 w) size list₀ n list i) where
   pub listing-on : {list′ : List ℕ} → i < size → length list′ ≡ length list → list′ ≡ placed list (4 * (n + i)) (9 ∷ at w (from + i) ∷ 0 ∷ 0 ∷ [])
       → ListingAll (section from 512 w) size list₀ n list′ (i + 1)
   listing-on {list′} h el e =
@@ -190,7 +190,7 @@ module _ {from count : ℕ} {w : List ℕ} (r : Rising from count w) where
   lies = record { within = r .set .within; room = section-room from w (r .set .exact .full); few = r .set .exact .few }
 
   module _ (n k : ℕ) (e : k ≡ seatOf n (inUse (numbersIn from count w))) where
-    v : Numbers
+    abbrev v : Numbers
     v = numbersIn from count w
 
     x : ExactNumbers v
