@@ -60,8 +60,15 @@ fn allocate(
     Stop::No
 }
 
+// An array that is lent has its length.
+fn full_halves(halves: &Halves)
+    ensures { λ _. ⌜ length (now (halves .entry)) ≡ 772 ⌝ }
+{
+    let s: &[u32] = halves;
+}
+
 // A send past its tests.
-fn sends(
+fn goes(
     words: &mut Words,
     halves: &mut Halves,
     bytes: &mut Bytes,
@@ -73,6 +80,7 @@ fn sends(
     requires { ⌜ Ready (parts (now words) (now halves) (now bytes) (now clock)) (length (now list)) (length (now outbound)) ⌝ }
     ensures { λ x. ⌜ Driven (parts (now (words .entry)) (now (halves .entry)) (now (bytes .entry)) (now (clock .entry))) (parts (now (words .exit)) (now (halves .exit)) (now (bytes .exit)) (now (clock .entry))) x (λ s y. CalledWithOutbound (sends (now (body .entry))) s (now (list .entry)) (now (outbound .entry)) y (now (list .exit)) (now (outbound .exit))) ⌝ }
 {
+    full_halves(halves);
     let number = words[parts::NEXT];
     let generation = halves[parts::GENERATION];
     let stop = allocate(words, halves, bytes, outbound, body);
@@ -102,6 +110,6 @@ pub fn send(
     let stop = enters(words, halves, bytes, list.len(), outbound.len());
     match stop {
         Stop::By(x) => link_codes::refusal(x),
-        Stop::No => sends(words, halves, bytes, clock, list, outbound, body),
+        Stop::No => goes(words, halves, bytes, clock, list, outbound, body),
     }
 }
