@@ -18,7 +18,9 @@ ghost use Rattle.outbox.specs.Steps.{Room, Replays};
 ghost use Rattle.link_outbox.specs.Steps.{Joins, Marks, Frees, Drops, freed, Sends};
 ghost use Rattle.link_outbox.specs.Tests.{fall, falls, cap, capU, Bounded, Sought};
 use outbox::Place;
-use parts::{Bytes, Halves, Words};
+use parts::Bytes;
+use parts::Halves;
+use parts::Words;
 
 // A half as a word.
 fn wide(x: u32) -> u64
@@ -153,7 +155,14 @@ pub fn used(halves: &Halves, count: usize) -> usize
 // ---- a message joins
 
 // A message with the next number, at the end: its body from index at on, where the bodies end.
-pub fn append(words: &mut Words, halves: &mut Halves, bytes: &mut Bytes, store: &mut [u8], at: usize, body: &[u8])
+pub fn append(
+    words: &mut Words,
+    halves: &mut Halves,
+    bytes: &mut Bytes,
+    store: &mut [u8],
+    at: usize,
+    body: &[u8],
+)
     requires { ⌜ Room (outboxIn (now words) (now halves) (now bytes)) (length (now store)) at (length (now body)) ⌝ }
     ensures { λ _. ⌜ Joins (now (words .entry)) (now (halves .entry)) (now (bytes .entry)) (now (store .entry)) (now (body .entry)) (now (words .exit)) (now (halves .exit)) (now (bytes .exit)) (now (store .exit)) ⌝ }
 {
@@ -268,7 +277,14 @@ fn releases(number: u32, pending: u8, upto: u64) -> bool
 }
 
 // The Rust's `complete_commit` on the messages: those pending up to upto are sent, and unsent until a send is reported.
-pub fn release(words: &Words, halves: &Halves, bytes: &mut Bytes, upto: u64, list: &mut [u64], n: usize) -> usize
+pub fn release(
+    words: &Words,
+    halves: &Halves,
+    bytes: &mut Bytes,
+    upto: u64,
+    list: &mut [u64],
+    n: usize,
+) -> usize
     requires { ⌜ (soundOutbox (outboxIn (now words) (now halves) (now bytes)) ≡ true) × (4 * (n + at (now words) 1) ≤ length (now list)) ⌝ }
     ensures { λ r. ⌜ Frees upto (now (words .entry)) (now (halves .entry)) (now (bytes .entry)) (now (list .entry)) n (now (bytes .exit)) (now (list .exit)) r ⌝ }
 {
@@ -359,7 +375,13 @@ fn count_if(stays: bool, n: usize) -> usize
 }
 
 // The Rust's `acknowledge`: messages up to ack go, except those pending or unsent. One pass; the freed tail is cleared once.
-pub fn acknowledge(words: &mut Words, halves: &mut Halves, bytes: &mut Bytes, store: &mut [u8], ack: u64)
+pub fn acknowledge(
+    words: &mut Words,
+    halves: &mut Halves,
+    bytes: &mut Bytes,
+    store: &mut [u8],
+    ack: u64,
+)
     requires { ⌜ ExactOutbox (outboxIn (now words) (now halves) (now bytes)) (length (now store)) ⌝ }
     ensures { λ _. ⌜ Drops ack (now (words .entry)) (now (halves .entry)) (now (bytes .entry)) (now (store .entry)) (now (words .exit)) (now (halves .exit)) (now (bytes .exit)) (now (store .exit)) ⌝ }
 {
