@@ -243,7 +243,6 @@ module _ (w h b : List ℕ) where
       below-last : (i : ℕ) → i < length (usedU x) → rising numU 0 (usedU x) ≡ true → length (usedU x) ≡ n → getD (usedU x) (n - 1) blankU .number ≡ at h (n - 1) → getD (usedU x) i blankU .number < at w 0
       below-last i k up l le = ⊎-elim (λ (e : i ≡ n - 1). omega (arith, ap (λ (j : ℕ). getD (usedU x) j blankU .number) e)) (λ (e : i < n - 1). omega (arith, rises-between 0 i (n - 1) (usedU x) up e (omega arith))) (eq-or-lt-of-le (upto i k l))
 
-
 -- ---- where the bodies end
 
 pub take-total : (f : ℕ → Unacked) (n : ℕ) → n ≤ 256 → total lenU (take n (seats 256 f)) ≡ total lenU (seats n f)
