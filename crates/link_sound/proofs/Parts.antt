@@ -1,6 +1,6 @@
 -- What a caller has of a session in place that is found sound. Assumes nothing.
-use Prim.Native.Nat.{ℕ, _+_, _-_, _≤_}
-use mathlib.Core.Path.{_≡_, refl, sym, ap, _∙_}
+use Prim.Native.Nat.{ℕ, _-_, _≤_}
+use mathlib.Core.Path.{_≡_, refl, sym}
 use mathlib.Core.Bool.{Bool, true, false}
 use mathlib.Core.List.{List}
 use native.Mathlib.Omega.{arith}
@@ -10,14 +10,13 @@ use lib.Ieee.{Float}
 use borrow.Author.Tests.{leb-true}
 use Rattle.stores.proofs.Chains.{two}
 use Rattle.rules.specs.Lists.{Bytes, rising, itself, all}
-use Rattle.rules.specs.Sound.{at-most, ascending}
+use Rattle.rules.specs.Sound.{at-most}
 use Rattle.numbers.specs.Seats.{inUse}
 use Rattle.outbox.specs.View.{ExactOutbox}
 use Rattle.outbox.specs.Sound.{soundOutbox}
 use Rattle.queue.specs.View.{ExactQueue}
 use Rattle.queue.specs.Sound.{soundQueue}
-use Rattle.peer_session.specs.declared.SessionState.{SessionState}
-use Rattle.peer_session.specs.Sound.{Full, Checked, soundAcks, soundSizes, soundOf}
+use Rattle.peer_session.specs.Sound.{Checked, soundAcks, soundSizes, soundOf}
 use Rattle.peer_session.proofs.View as Views
 use Rattle.parts.specs.Codes.{good-codes, stageOf}
 use Rattle.parts.specs.Parts.{at, outboxIn, queueIn, waitingIn, retryIn, policyIn, codesIn, parts, openedOf}
