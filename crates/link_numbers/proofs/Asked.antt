@@ -4,13 +4,13 @@ use mathlib.Core.Path.{_≡_, refl, sym, ap, _∙_, subst}
 use mathlib.Core.Bool.{Bool, true, false, _&&_}
 use mathlib.Core.List.{List, [], _∷_}
 use native.Mathlib.Omega.{arith}
-use lib.ListN.{length, take, getD}
+use lib.ListN.{length, getD}
 use lib.Seq.{slice, getD-take, length-take-le}
-use lib.Dec.{leb, ltb, eqb}
+use lib.Dec.{leb, ltb}
 use borrow.Author.Tests.{le-leb, lt-ltb, le-ltb, ltb-true, leb-true}
 use Rattle.stores.specs.Fronts.{front}
 use Rattle.stores.proofs.Scans.{any-here, any-later, rises-on, rises-not}
-use Rattle.rules.specs.Lists.{if_then_else_, any, all, has, rising, itself, put, kept}
+use Rattle.rules.specs.Lists.{any, all, rising, itself, put, kept}
 use Rattle.rules.specs.Sound.{at-most, ascending}
 use Rattle.rules.proofs.Lists.{if-rule, and-left, and-right, and-both, rising-put, rising-kept}
 use Rattle.numbers.specs.Seats.{under, seatOf}
@@ -123,7 +123,7 @@ seat-between n [] j e h a b = omega arith
 seat-between n (x ∷ xs) zero e h a b = rw (le-ltb x n (b (omega arith)))
 seat-between n (x ∷ xs) (suc j) e h a b =
     let lt : x < n = low j refl in
-    let r : j ≡ front (under n) xs = seat-between n xs j (tail-ascends x xs e) (omega arith) (λ i q. a (suc i) (ap suc q) ) (λ k. b (omega arith)) in
+    let r : j ≡ front (under n) xs = seat-between n xs j (tail-ascends x xs e) (omega arith) (λ i q. a (suc i) (ap suc q)) (λ k. b (omega arith)) in
     rw (lt-ltb x n lt) (ap suc r)
   where
     low : (i : ℕ) → j ≡ i → x < n
@@ -149,10 +149,10 @@ module _ (from : ℕ) (w : List ℕ) (n : ℕ) (few : n ≤ 512) (room : from + 
   seat-in x j h a b =
       seat-between x (firsts from n w) j up (omega (arith, size))
       (λ i e.
-          let ei : i ≡ j - 1 = omega arith in
-          let g : at w (from + (j - 1)) < x = a (omega arith) in
-          let f : at (firsts from n w) i ≡ at w (from + (j - 1)) = found i (omega arith) ∙ ap (λ (k : ℕ). at w (from + k)) ei in
-          omega arith)
+      let ei : i ≡ j - 1 = omega arith in
+      let g : at w (from + (j - 1)) < x = a (omega arith) in
+      let f : at (firsts from n w) i ≡ at w (from + (j - 1)) = found i (omega arith) ∙ ap (λ (k : ℕ). at w (from + k)) ei in
+      omega arith)
       (λ k. let f : at (firsts from n w) j ≡ at w (from + j) = found j (omega (arith, size)) in omega (arith, b (omega (arith, size))))
 
 pub most-none : (from : ℕ) (w : List ℕ) (n limit : ℕ) → n ≡ 0 → true ≡ all (at-most limit) (firsts from n w)

@@ -1,12 +1,11 @@
 -- Sets of numbers in the words of a session. Assumes nothing.
-use Prim.Native.Nat.{ℕ, zero, suc, _+_, _-_, _≤_, _<_}
-use mathlib.Core.Path.{_≡_, refl, sym, ap, _∙_}
-use mathlib.Core.Bool.{Bool, true, false}
-use mathlib.Core.List.{List, [], _∷_, _++_}
+use Prim.Native.Nat.{ℕ, _+_, _≤_, _<_}
+use mathlib.Core.Path.{_≡_, refl, ap, _∙_}
+use mathlib.Core.List.{List}
 use native.Mathlib.Omega.{arith}
-use lib.ListN.{length, take, drop, getD, set, length-take, length-drop, length-set}
-use lib.Seq.{getD-take, getD-drop, drop-set-lt, drop-set-add, take-set-lt, getD-set-other, getD-set-same}
-use Rattle.parts.specs.Parts.{at, section, numbersIn}
+use lib.ListN.{length, take, drop, set, length-take, length-drop, length-set}
+use lib.Seq.{getD-take, getD-drop, drop-set-lt, drop-set-add, take-set-lt, getD-set-other}
+use Rattle.parts.specs.Parts.{at, section}
 use Rattle.parts.specs.Frames.{Only}
 
 -- ---- where a number lies

@@ -178,7 +178,14 @@ fn list_one(upto: u64, x: u64, list: &mut [u64], n: usize) -> usize
 }
 
 // The numbers up to upto are listed by code 9, from event number n on; the later ones stay.
-pub fn release(words: &mut Words, from: usize, at: usize, upto: u64, list: &mut [u64], n: usize) -> usize
+pub fn release(
+    words: &mut Words,
+    from: usize,
+    at: usize,
+    upto: u64,
+    list: &mut [u64],
+    n: usize,
+) -> usize
     requires { ⌜ Set from at (now words) × (4 * (n + numbersIn from at (now words) .count) ≤ length (now list)) ⌝ }
     ensures { λ r. ⌜ Releases upto from at (now (words .entry)) (now (list .entry)) n (now (words .exit)) (now (list .exit)) r ⌝ }
 {

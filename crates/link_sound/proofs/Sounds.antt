@@ -1,19 +1,17 @@
 -- The check of a session in place, test by test. Assumes nothing.
 use Prim.Native.Nat.{ℕ, _+_, _-_, _≤_, _<_}
-use mathlib.Core.Path.{_≡_, refl, sym, ap, _∙_, subst}
+use mathlib.Core.Path.{_≡_, sym, ap, _∙_, subst}
 use mathlib.Core.Bool.{Bool, true, false, not}
 use mathlib.Core.List.{List}
 use native.Mathlib.Omega.{arith}
-use lib.ListN.{length, getD, take, drop, length-take, length-drop}
+use lib.ListN.{length, getD, length-take, length-drop}
 use lib.Seq.{slice}
-use lib.Dec.{leb, eqb}
+use lib.Dec.{eqb}
 use lib.Ieee.{Float}
 use borrow.Author.Tests.{eq-eqb, ne-eqb, le-leb, lt-leb}
 use Rattle.stores.specs.Admitted.{admitted}
-use Rattle.stores.proofs.Scans.{admitted-on, admitted-not, admitted-none}
+use Rattle.stores.proofs.Scans.{admitted-on, admitted-not}
 use Rattle.stores.proofs.Chains.{is-skip, is-stop}
-use Rattle.rules.specs.Lists.{rising, itself}
-use Rattle.rules.specs.Sound.{ascending}
 use Rattle.outbox.specs.Sound.{soundOutbox}
 use Rattle.queue.specs.declared.Queued.{Queued}
 use Rattle.queue.specs.View.{numQ, lenQ, blankQ}
@@ -26,7 +24,6 @@ use Rattle.parts.specs.Seats.{seats}
 use Rattle.parts.specs.Codes.{good-codes, stageOf}
 use Rattle.parts.specs.Parts.{at, flag, section, queuedAt, queueIn, outboxIn, policyIn, waitingIn, retryIn, codesIn, handoffIn, parts, openedOf}
 use Rattle.parts.proofs.Seats.{length-seats, getD-seats}
-use Rattle.link_numbers.proofs.Asked.{tail-ascends}
 use Rattle.link_sound.specs.Sizes.{Sized, admits}
 
 -- ---- the queued frames from index i on, by where the first lies

@@ -12,7 +12,9 @@ ghost use Rattle.parts.specs.Seats.{seats};
 ghost use Rattle.parts.specs.Codes.{good-codes, stageOf};
 ghost use Rattle.parts.specs.Parts.{at, queuedAt, queueIn, policyIn, waitingIn, retryIn, codesIn, parts, openedOf};
 ghost use Rattle.link_sound.specs.Sizes.{Sized, admits};
-use parts::{Bytes, Halves, Words};
+use parts::Bytes;
+use parts::Halves;
+use parts::Words;
 
 // ---- how long the arrays are: for the proofs
 
@@ -76,7 +78,15 @@ fn sound_queued(words: &Words, halves: &Halves, bytes: &Bytes, count: usize) -> 
     while i < count {
         let number = words[parts::QUEUED_NUMBERS + i];
         let len = wide(halves[parts::QUEUED_LENS + i]);
-        if !admits(body, size, last, sum, number, len, bytes[parts::QUEUED_KINDS + i]) {
+        if !admits(
+            body,
+            size,
+            last,
+            sum,
+            number,
+            len,
+            bytes[parts::QUEUED_KINDS + i],
+        ) {
             return false;
         }
         last = number;

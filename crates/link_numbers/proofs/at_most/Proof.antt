@@ -1,6 +1,4 @@
 use native.Mathlib.Omega.{arith}
-use mathlib.Core.Path.{_≡_, refl, sym, _∙_}
-use Rattle.rules.specs.Lists.{all}
 use Rattle.link_numbers.proofs.Asked.{most-last, most-none}
 use borrow.Author.Needs.{needs}
 use Rattle.link_numbers.proofs.at_most.Statement.{statement}

@@ -1,8 +1,7 @@
 use Rattle.link_numbers.specs.Sets.{Lies}
-use Prim.Native.Nat.{_-_, _+_, _≤_}
+use Prim.Native.Nat.{_-_, _≤_}
 use native.Mathlib.Omega.{arith}
 use mathlib.Core.Path.{_≡_, refl, sym, _∙_}
-use lib.ListN.{length}
 use lib.Seq.{slice}
 use lib.Dec.{eqb}
 use borrow.Author.Tests.{eq-eqb, ne-eqb}

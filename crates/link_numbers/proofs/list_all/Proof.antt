@@ -1,5 +1,4 @@
-use Prim.Native.Nat.{_-_, _+_}
-use native.Mathlib.Omega.{arith}
+use Prim.Native.Nat.{_-_}
 use mathlib.Core.Path.{refl}
 use Rattle.parts.specs.Parts.{section}
 use Rattle.numbers.proofs.Passes.{ListingAll, all-unlisted, all-listed}

@@ -1,8 +1,7 @@
 use Rattle.link_numbers.specs.Sets.{Lies}
-use Prim.Native.Nat.{_-_, _+_, _≤_}
+use Prim.Native.Nat.{_-_, _≤_}
 use native.Mathlib.Omega.{arith}
 use mathlib.Core.Path.{_≡_, refl, sym, _∙_}
-use lib.ListN.{length}
 use lib.Seq.{slice}
 use Rattle.rules.specs.Lists.{rising, itself}
 use Rattle.stores.proofs.Scans.{rises-none}

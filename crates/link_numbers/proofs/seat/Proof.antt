@@ -1,8 +1,6 @@
 use Rattle.link_numbers.specs.Sets.{Lies}
-use Prim.Native.Nat.{_-_, _+_, _≤_, _<_}
+use Prim.Native.Nat.{_+_, _≤_, _<_}
 use native.Mathlib.Omega.{arith}
-use mathlib.Core.Path.{_≡_, refl, sym, _∙_}
-use lib.ListN.{length}
 use Rattle.parts.specs.Parts.{at}
 use Rattle.link_numbers.proofs.Asked.{seat-in}
 use borrow.Author.Needs.{needs}

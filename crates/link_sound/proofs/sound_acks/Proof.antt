@@ -2,7 +2,6 @@ use mathlib.Core.Path.{sym, _∙_}
 use borrow.Author.Tests.{not-true, not-false}
 use Rattle.peer_session.specs.Sound.{soundAcks}
 use Rattle.stores.proofs.Chains.{le-skip, le-stop, is-skip, is-stop}
-use Rattle.link_numbers.specs.Sets.{firsts}
 use Rattle.link_numbers.proofs.Asked.{tail-ascends}
 use borrow.Author.Needs.{needs}
 use Rattle.link_sound.proofs.sound_acks.Statement.{statement}
