@@ -1,0 +1,1 @@
+// Replays, a fetch and the questions on the parts of a session.
