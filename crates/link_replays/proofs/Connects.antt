@@ -1,5 +1,5 @@
 -- A connectivity event on the parts of a session, answer by answer. Assumes nothing.
-use Prim.Native.Nat.{ℕ, _≤_, _<_}
+use Prim.Native.Nat.{ℕ, _+_, _*_, _≤_, _<_}
 use mathlib.Core.Path.{_≡_, refl}
 use mathlib.Core.Bool.{Bool, true, false, not, _&&_}
 use mathlib.Core.List.{List}
@@ -11,8 +11,11 @@ use Rattle.rules.specs.declared.Refusal.{Refusal}
 use Rattle.rules.specs.declared.Refusal.the-variants.{ShortBuffer, UnknownCode, BadRecord}
 use Rattle.rules.specs.Clock.{held-back}
 use Rattle.rules.specs.Calls.{connects}
+use Rattle.outbox.specs.Sound.{soundOutbox}
 use Rattle.outbox.specs.Steps.{Replays}
+use Rattle.outbox.proofs.View.{SoundU, sound-facts}
 use Rattle.peer_session.specs.Sound.{soundOf}
+use Rattle.peer_session.proofs.View as View
 use Rattle.session.specs.Promise.{CalledWithList}
 use Rattle.replays.proofs.Connects as C
 use Rattle.parts.specs.declared.LinkAnswer.{LinkAnswer}
@@ -50,6 +53,14 @@ module _ (w h b : List ℕ) (t : Float) (l : List ℕ) (e : ℕ) (time : Float) 
   noted k a =
       leaves (parts w h b t) (Flag true) 0 a
       (C.quiet e time f (openedOf (parts w h b t)) l (ready .list) (ready .sound) (ready .full) (ready .first) k)
+
+  -- there is room for every message
+  pub may-replay : (soundOutbox (outboxIn w h b) ≡ true) × (4 * (0 + at w 1) ≤ length l)
+  unfolding openedOf
+  may-replay =
+      let s : soundOutbox (outboxIn w h b) ≡ true = View.parts (openedOf (parts w h b t)) (ready .sound) (ready .full) .outbox in
+      let f : SoundU (outboxIn w h b) = sound-facts (outboxIn w h b) s in
+      (s, omega (arith, f .few, ready .list))
 
   module _ (late : 4 ≤ e) where
     pub nothing-unacked : at w 1 ≡ 0 → {y : LinkAnswer} → y ≡ answerOf (Flag true) 0

@@ -14,13 +14,20 @@ use Rattle.outbox.specs.View.{usedU}
 use Rattle.outbox.specs.Records as Records
 use Rattle.outbox.specs.Records.{placeU}
 use Rattle.peer_session.specs.Sound.{soundOf, Full}
+use Rattle.peer_session.proofs.View as View
+use Rattle.link_outbox.specs.Tests.{Bounded}
+use Rattle.link_outbox.proofs.Sounds.{bounded-sound}
 use Rattle.fetches.specs.Fetched.{AnsweredWithOutbound}
 use Rattle.fetches.proofs.Finds as F
 use Rattle.parts.specs.declared.LinkAnswer.{LinkAnswer}
 use Rattle.parts.specs.Codes.{answerOf}
-use Rattle.parts.specs.Parts.{parts, outboxIn, openedOf}
+use Rattle.parts.specs.Parts.{parts, at, outboxIn, openedOf}
 use Rattle.parts.specs.Driven.{DrivenAnswer}
 use Rattle.parts.proofs.Drives.{answers}
+
+pub may-locate : (w h b : List ℕ) (t : Float) → soundOf (openedOf (parts w h b t)) ≡ true → Full (openedOf (parts w h b t)) → Bounded h (at w 1)
+unfolding openedOf
+may-locate w h b t s full = bounded-sound w h b (View.parts (openedOf (parts w h b t)) s full .outbox)
 
 module _ (w h b : List ℕ) (t : Float) (o : Bytes) (number : ℕ) where
   pub find-short : length o < 65536 → {y : LinkAnswer} → y ≡ answerOf (Refused ShortBuffer) 0
