@@ -1,18 +1,53 @@
 // Replays, a fetch and the questions on the parts of a session, in place: the driver's, on the session that they are.
 ghost use mathlib.Core.Path.{_≡_};
+ghost use lib.ListN.{length};
+ghost use Rattle.rules.specs.Calls.{connects};
 ghost use Rattle.rules.specs.Clock.{dirty};
 ghost use Rattle.rules.specs.Lists.{Bytes};
 ghost use Rattle.rules.specs.Queries.{accepted, is-retired};
 ghost use Rattle.rules.specs.Setup.{rejection-complete};
 ghost use Rattle.peer_session.specs.View.{stateOf};
-ghost use Rattle.session.specs.Promise.{termsIn};
+ghost use Rattle.session.specs.Promise.{CalledWithList, termsIn};
 ghost use Rattle.parts.specs.Codes.{stageOf};
+ghost use Rattle.parts.specs.Driven.{Driven};
+ghost use Rattle.link_replays.specs.Connects.{Ready};
 ghost use Rattle.parts.specs.Parts.{parts, codesIn, openedOf};
 use parts::Bytes;
 use parts::Halves;
+use parts::LinkAnswer;
 use parts::Words;
 use rules::Setup;
 use session::ChannelTerms;
+
+// ---- connectivity
+
+// An event past its tests: 1 to 3 do nothing; 4 and 5 send anew what is unacked and not pending, unless that was done a moment ago and is not forced.
+fn goes(
+    words: &Words,
+    halves: &Halves,
+    bytes: &Bytes,
+    clock: &mut f64,
+    list: &mut [u64],
+    event: u64,
+    time: f64,
+    force: bool,
+) -> LinkAnswer
+    requires { ⌜ Ready (parts (now words) (now halves) (now bytes) (now clock)) (length (now list)) event ⌝ }
+    ensures { λ x. ⌜ Driven (parts (now (words .entry)) (now (halves .entry)) (now (bytes .entry)) (now (clock .entry))) (parts (now (words .entry)) (now (halves .entry)) (now (bytes .entry)) (now (clock .exit))) x (λ s y. CalledWithList (connects event time force) s (now (list .entry)) y (now (list .exit))) ⌝ }
+{
+    if event <= 3 {
+        return link_codes::plain(2, 1, 0);
+    }
+    if words[parts::UNACKED] == 0 {
+        return link_codes::plain(2, 1, 0);
+    }
+    if replays::too_soon(time, *clock, force) {
+        return link_codes::plain(2, 0, 0);
+    }
+    let n = link_outbox::replay(words, halves, bytes, list, 0);
+    *clock = time;
+    link_codes::plain(2, 1, n)
+}
 
 // ---- questions, of any session, whatever its stores hold
 
