@@ -1,6 +1,7 @@
 // Replays, a fetch and the questions on the parts of a session, in place: the driver's, on the session that they are.
 ghost use mathlib.Core.Path.{_≡_};
 ghost use lib.ListN.{length};
+ghost use Rattle.outbox.specs.Records as Records;
 ghost use Rattle.rules.specs.Calls.{connects};
 ghost use Rattle.rules.specs.Clock.{dirty};
 ghost use Rattle.rules.specs.Lists.{Bytes};
@@ -8,18 +9,42 @@ ghost use Rattle.rules.specs.Queries.{accepted, is-retired};
 ghost use Rattle.rules.specs.Setup.{rejection-complete};
 ghost use Rattle.peer_session.specs.View.{stateOf};
 ghost use Rattle.session.specs.Promise.{CalledWithList, termsIn};
-ghost use Rattle.parts.specs.Codes.{stageOf};
-ghost use Rattle.parts.specs.Driven.{Driven};
-ghost use Rattle.link_replays.specs.Connects.{Ready};
+ghost use Rattle.parts.specs.Codes.{stageOf, answerOf};
 ghost use Rattle.parts.specs.Parts.{parts, codesIn, openedOf};
+ghost use Rattle.parts.specs.Driven.{Driven};
+ghost use Rattle.link_replays.specs.Connects.{Ready, Enters};
+use events::Stop;
+use outbox::Place;
 use parts::Bytes;
 use parts::Halves;
 use parts::LinkAnswer;
 use parts::Words;
+use peer_session::SessionState;
+use rules::Answer;
+use rules::Refusal;
 use rules::Setup;
 use session::ChannelTerms;
 
 // ---- connectivity
+
+// The tests of an event, in their order.
+fn enters(words: &Words, halves: &Halves, bytes: &Bytes, list: usize, event: u64) -> Stop
+    ensures { λ r. ⌜ Enters (now (words .entry)) (now (halves .entry)) (now (bytes .entry)) list event r ⌝ }
+{
+    if list < SessionState::EVENT_WORDS {
+        return Stop::By(Refusal::ShortBuffer);
+    }
+    if event < 1 {
+        return Stop::By(Refusal::UnknownCode);
+    }
+    if 5 < event {
+        return Stop::By(Refusal::UnknownCode);
+    }
+    if !link_sound::sound(words, halves, bytes) {
+        return Stop::By(Refusal::BadRecord);
+    }
+    Stop::No
+}
 
 // An event past its tests: 1 to 3 do nothing; 4 and 5 send anew what is unacked and not pending, unless that was done a moment ago and is not forced.
 fn goes(
@@ -47,6 +72,43 @@ fn goes(
     let n = link_outbox::replay(words, halves, bytes, list, 0);
     *clock = time;
     link_codes::plain(2, 1, n)
+}
+
+// The answer is false where the clock holds a replay back.
+pub fn connectivity(
+    words: &Words,
+    halves: &Halves,
+    bytes: &Bytes,
+    clock: &mut f64,
+    list: &mut [u64],
+    event: u64,
+    time: f64,
+    force: bool,
+) -> LinkAnswer
+    ensures { λ x. ⌜ Driven (parts (now (words .entry)) (now (halves .entry)) (now (bytes .entry)) (now (clock .entry))) (parts (now (words .entry)) (now (halves .entry)) (now (bytes .entry)) (now (clock .exit))) x (λ s y. CalledWithList (connects event time force) s (now (list .entry)) y (now (list .exit))) ⌝ }
+{
+    let stop = enters(words, halves, bytes, list.len(), event);
+    match stop {
+        Stop::By(x) => link_codes::refusal(x),
+        Stop::No => goes(words, halves, bytes, clock, list, event, time, force),
+    }
+}
+
+// ---- a fetch
+
+fn place_answer(p: Place) -> LinkAnswer
+    ensures { λ x. ⌜ x ≡ answerOf (Records.answerOf p) 0 ⌝ }
+{
+    match p {
+        Place::At { start, len } => {
+            let a = Answer::Held {
+                start: start,
+                len: len,
+            };
+            link_codes::answer_of(a, 0)
+        }
+        Place::Nowhere => link_codes::plain(5, 0, 0),
+    }
 }
 
 // ---- questions, of any session, whatever its stores hold
