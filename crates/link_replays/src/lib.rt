@@ -2,16 +2,17 @@
 ghost use mathlib.Core.Path.{_≡_};
 ghost use lib.ListN.{length};
 ghost use Rattle.outbox.specs.Records as Records;
-ghost use Rattle.rules.specs.Calls.{connects};
+ghost use Rattle.rules.specs.Calls.{connects, fetches};
 ghost use Rattle.rules.specs.Clock.{dirty};
 ghost use Rattle.rules.specs.Lists.{Bytes};
 ghost use Rattle.rules.specs.Queries.{accepted, is-retired};
 ghost use Rattle.rules.specs.Setup.{rejection-complete};
 ghost use Rattle.peer_session.specs.View.{stateOf};
 ghost use Rattle.session.specs.Promise.{CalledWithList, termsIn};
+ghost use Rattle.fetches.specs.Fetched.{AnsweredWithOutbound};
 ghost use Rattle.parts.specs.Codes.{stageOf, answerOf};
 ghost use Rattle.parts.specs.Parts.{parts, codesIn, openedOf};
-ghost use Rattle.parts.specs.Driven.{Driven};
+ghost use Rattle.parts.specs.Driven.{Driven, DrivenAnswer};
 ghost use Rattle.link_replays.specs.Connects.{Ready, Enters};
 use events::Stop;
 use outbox::Place;
@@ -109,6 +110,27 @@ fn place_answer(p: Place) -> LinkAnswer
         }
         Place::Nowhere => link_codes::plain(5, 0, 0),
     }
+}
+
+// Whether a number is held, and where its body lies in the outbound store.
+pub fn find(
+    words: &Words,
+    halves: &Halves,
+    bytes: &Bytes,
+    clock: &f64,
+    outbound: &[u8],
+    number: u64,
+) -> LinkAnswer
+    ensures { λ x. ⌜ DrivenAnswer (parts (now (words .entry)) (now (halves .entry)) (now (bytes .entry)) (now (clock .entry))) x (λ s a. AnsweredWithOutbound (fetches number) s (now (outbound .entry)) a) ⌝ }
+{
+    if outbound.len() < SessionState::OUTBOUND_BYTES {
+        return link_codes::refusal(Refusal::ShortBuffer);
+    }
+    if !link_sound::sound(words, halves, bytes) {
+        return link_codes::refusal(Refusal::BadRecord);
+    }
+    let p = link_outbox::locate(words, halves, number);
+    place_answer(p)
 }
 
 // ---- questions, of any session, whatever its stores hold
