@@ -87,7 +87,7 @@ fn mode_of(code: u8) -> ReceiveMode
 }
 
 // Codes that are none open as a disposition that is none, which every call refuses by 3.
-fn stage_of(g: StageCodes) -> Stage
+pub fn stage_of(g: StageCodes) -> Stage
     ensures { λ r. ⌜ r ≡ stageOf g ⌝ }
 {
     if !good_codes(g) {

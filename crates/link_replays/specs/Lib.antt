@@ -1,0 +1,2 @@
+-- What the contracts of `link_replays` cite.
+pub mod Connects
