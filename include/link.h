@@ -124,7 +124,7 @@ typedef struct {
 #define LINK_CHANGED uint64_t *words, uint32_t *halves, uint8_t *bytes, double *last_replay_at
 #define LINK_READ const uint64_t *words, const uint32_t *halves, const uint8_t *bytes, const double *last_replay_at
 
-/* Where each number stands, for tests and dumps; no host needs it. Entries past a count mean nothing. A flag is 0 for false, anything else for true. */
+/* Where each number stands, for tests and dumps. Entries past a count mean nothing. A flag is 0 for false, anything else for true. */
 
 enum { /* words */
     LINK_WORD_NEXT = 0,              /* the next message number */
