@@ -1,4 +1,4 @@
-//! The same as deck.c, in Rust: a counter and a controller over a line that loses, repeats and reorders frames, and a closing round.
+//! The same as deck.c but for the power cuts, in Rust: a counter and a controller over a line that loses, repeats and reorders frames, and a closing round.
 mod link;
 use link::{Answer, Link, Reliable, AVAILABLE};
 

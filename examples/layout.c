@@ -334,7 +334,6 @@ static void stages(void) {
 }
 
 static void restores(void) {
-    start(1, 0, LINK_OTHER, 0);
     for (int flags = 0; flags < 4; flags++) {
         start(1, 60, LINK_OTHER, 0);
         numbers[0] = 41, numbers[1] = 43, lengths[0] = 3, lengths[1] = 4;
@@ -553,41 +552,43 @@ static void flags(void) {
 
 /* ---- where a session stands */
 
-static const uint8_t *run(link_session *s, uint8_t *out, uint8_t *in) { /* a day in short; a digest of all that its calls returned and listed */
-    static struct { link_answer a; uint64_t list[64]; } said[12];
-    memset(said, 0, sizeof said);
+typedef struct { link_answer a; uint64_t list[64]; } said; /* what a call returned, and the head of its list */
+enum { DAY = 9 };
+
+static void day(said *all, link_session *s, uint8_t *out, uint8_t *in) { /* a day in short */
     link_answer a = link_prepare(LINK(s));
-    size_t n = 0;
-#define SAID(call) said[n].a = call, memcpy(said[n++].list, list, sizeof said[0].list)
     memset(list, 0, sizeof list);
+#define SAID(call) all->a = call, memcpy(all++->list, list, sizeof all->list)
+#define STORES out, LINK_OUTBOUND_BYTES, in, LINK_QUEUE_BYTES
     SAID(link_complete(LINK(s), LIST, (link_commit){(uint32_t)a.value, a.second, a.third}, true));
     SAID(link_send(LINK(s), LIST, out, LINK_OUTBOUND_BYTES, body, 40));
     SAID(link_connectivity(LINK(s), LIST, LINK_REGISTERED, 5000.0, false));
-    SAID(link_data(LINK(s), LIST, DELIVERY, out, LINK_OUTBOUND_BYTES, in, LINK_QUEUE_BYTES, available, 19, 0, body, 6));
-    SAID(link_data(LINK(s), LIST, DELIVERY, out, LINK_OUTBOUND_BYTES, in, LINK_QUEUE_BYTES, available, 12, 0, body, 6));
+    SAID(link_data(LINK(s), LIST, DELIVERY, STORES, available, 19, 0, body, 6));
+    SAID(link_data(LINK(s), LIST, DELIVERY, STORES, available, 12, 0, body, 6));
     SAID(link_report(LINK(s), LIST, LINK_REPORT_DATA, 2000, true));
-    SAID(link_ack(LINK(s), LIST, out, LINK_OUTBOUND_BYTES, in, LINK_QUEUE_BYTES, 2000));
+    SAID(link_ack(LINK(s), LIST, STORES, 2000));
     SAID(link_keepalive(LINK(s), LIST));
     SAID(link_find(LINK(s), out, LINK_OUTBOUND_BYTES, 2002));
-    return (const uint8_t *)said;
 }
 
 /* Saved as bytes and loaded elsewhere, a session goes on as it would have. So does one whose parts do not stand in one struct. */
 static void saved(void) {
-    static uint8_t file[sizeof(link_session) + LINK_OUTBOUND_BYTES + LINK_QUEUE_BYTES], out[LINK_OUTBOUND_BYTES], in[LINK_QUEUE_BYTES], first[12 * (48 + 512)];
+    static uint8_t file[sizeof(link_session) + LINK_OUTBOUND_BYTES + LINK_QUEUE_BYTES], out[LINK_OUTBOUND_BYTES], in[LINK_QUEUE_BYTES];
     static link_session loaded;
+    static said first[DAY], second[DAY];
     busy();
     link_connectivity(S, LIST, LINK_REGISTERED, 4500.0, true);
     memcpy(file, &at.s, sizeof at.s);
     memcpy(file + sizeof at.s, outbound, sizeof outbound);
     memcpy(file + sizeof at.s + sizeof outbound, queue, sizeof queue);
-    memcpy(first, run(&at.s, outbound, queue), sizeof first);
-    SAME("the day is not refused", ((link_answer *)first)->refusal, 0);
-    SAME("too soon for a replay, as before", ((link_answer *)(first + 2 * (48 + 512)))->value, false);
+    day(first, &at.s, outbound, queue);
+    ALL("the day is not refused", DAY, first[i].a.refusal, 0);
+    SAME("a replay, too soon after the one that was saved", first[2].a.value, false);
     memcpy(&loaded, file, sizeof loaded);
     memcpy(out, file + sizeof loaded, sizeof out);
     memcpy(in, file + sizeof loaded + sizeof out, sizeof in);
-    SAME("loaded, the same answers and lists", memcmp(first, run(&loaded, out, in), sizeof first), 0);
+    day(second, &loaded, out, in);
+    SAME("loaded, the same answers and lists", memcmp(first, second, sizeof first), 0);
     SAME("loaded, the same session", memcmp(&loaded, &at.s, sizeof loaded), 0);
     SAME("loaded, the same outbound store", memcmp(out, outbound, sizeof out), 0);
     SAME("loaded, the same queue store", memcmp(in, queue, sizeof in), 0);
