@@ -9,7 +9,7 @@ mod link;
 #[allow(warnings)]
 mod peer_session;
 
-use link::{Link, Reliable, AVAILABLE};
+use link::{Given, Link, Reliable, AVAILABLE};
 use peer_session::coordination::HostStatus;
 use peer_session::session::{Channel, ChannelOutput, PeerEvent, PeerHost, PeerInput, SendFrame, Session};
 use peer_session::{Message, ReceivePolicy, ReliableState};
@@ -119,8 +119,11 @@ fn their_record(next: u64, messages: &[(u64, &[u8])]) -> ReliableState {
 fn their_start(next: u64, messages: &[(u64, &[u8])]) -> Theirs {
     Session::new(their_record(next, messages), policy())
 }
+fn record(next: u64) -> Reliable {
+    Reliable { message_number: next, remote_number: 0, disposition: 0 }
+}
 fn our_start(next: u64, messages: &[(u64, &[u8])]) -> Link {
-    Link::start(3, Reliable { message_number: next, remote_number: 0, disposition: 0 }, messages, b"no")
+    Link::start(3, record(next), messages, b"no")
 }
 
 // ---- what both ends do
@@ -131,8 +134,13 @@ trait End {
     fn commit(&mut self);
     fn ack(&mut self, number: u64);
     fn data(&mut self, number: u64, body: &[u8]);
-    /// a forced replay, each frame reported as accepted
-    fn replay(&mut self);
+    /// prepare and complete, and no report. (The Rust's host has the frames taken at once: there is nothing to report.)
+    fn release(&mut self);
+    fn prepare(&mut self);
+    /// one frame of data reported as accepted; the Rust has no such call
+    fn report(&mut self, number: u64);
+    /// a forced replay; `reported` has each frame reported as accepted
+    fn replay(&mut self, reported: bool);
     fn keepalive(&mut self);
 }
 
@@ -143,10 +151,20 @@ impl End for Link {
         black_box(self.list[0]);
     }
     fn commit(&mut self) {
-        let record = self.prepare();
+        let record = Link::prepare(self);
         let a = self.complete(record, true);
         assert!(a.refusal == 0);
         self.report_all(a.events);
+    }
+    fn release(&mut self) {
+        let record = Link::prepare(self);
+        assert!(self.complete(record, true).refusal == 0);
+    }
+    fn prepare(&mut self) {
+        black_box(Link::prepare(self));
+    }
+    fn report(&mut self, number: u64) {
+        assert!(Link::report(self, 0, number, true).refusal == 0);
     }
     fn ack(&mut self, number: u64) {
         let a = Link::ack(self, number);
@@ -158,10 +176,14 @@ impl End for Link {
         assert!(a.refusal == 0);
         black_box(&self.delivery);
     }
-    fn replay(&mut self) {
+    fn replay(&mut self, reported: bool) {
         let a = self.connectivity(4, 5000.0, true);
         assert!(a.refusal == 0);
-        self.report_all(a.events);
+        if reported {
+            self.report_all(a.events);
+        } else {
+            black_box(&self.list);
+        }
     }
     fn keepalive(&mut self) {
         let a = Link::keepalive(self);
@@ -170,41 +192,13 @@ impl End for Link {
     }
 }
 impl Link {
-    fn start_again(&mut self, next: u64, numbers: &[u64], lengths: &[u64], bodies: &[u8]) {
-        let reject = b"no";
-        let record = Reliable { message_number: next, remote_number: 0, disposition: 0 };
-        self.returned = unsafe {
-            link::link_start(
-                record, numbers.as_ptr(), numbers.len(), lengths.as_ptr(), lengths.len(), bodies.as_ptr(), bodies.len(), link::link_class(3).policy,
-                reject.as_ptr(), reject.len(), self.outbound.as_mut_ptr(), self.outbound.len(), self.queue.as_mut_ptr(), self.queue.len(),
-            )
-        };
-        assert!(self.returned.answer.refusal == 0);
-    }
-}
-impl Link {
-    fn restore(&mut self, next: u64, numbers: &[u64], lengths: &[u64], bodies: &[u8]) {
-        let record = Reliable { message_number: next, remote_number: 0, disposition: 0 };
-        let given = link::Given { present: false, id: 0, number: 0, sent: false, acknowledged: false };
-        self.returned = unsafe {
-            link::link_restore(
-                self.returned.session, self.outbound.as_mut_ptr(), self.outbound.len(), record, numbers.as_ptr(), numbers.len(), lengths.as_ptr(),
-                lengths.len(), bodies.as_ptr(), bodies.len(), given, bodies.as_ptr(), 0,
-            )
-        };
-        assert!(self.returned.answer.refusal == 0);
-    }
-}
-trait ReportAll {
-    fn report_all(&mut self, events: usize);
-}
-impl ReportAll for Link {
+    /// Each frame that was listed, as accepted. A report lists nothing here, for there is no handoff: the list stays to be read.
     fn report_all(&mut self, events: usize) {
-        let mut words = [0u64; 4 * 600];
-        words[..4 * events].copy_from_slice(&self.list[..4 * events]);
-        for v in words[..4 * events].chunks(4) {
-            if v[0] == 8 || v[0] == 9 {
-                assert!(self.report(v[0] - 8, v[1], true).refusal == 0);
+        for i in 0..events {
+            let (code, number) = (self.list[4 * i], self.list[4 * i + 1]);
+            if code == 8 || code == 9 {
+                let a = Link::report(self, code - 8, number, true);
+                assert!(a.refusal == 0 && a.events == 0);
             }
         }
     }
@@ -218,13 +212,20 @@ impl End for Theirs {
         let record = self.prepare_commit();
         self.complete_commit(record, true, &HOST).unwrap();
     }
+    fn release(&mut self) {
+        self.commit();
+    }
+    fn prepare(&mut self) {
+        black_box(self.prepare_commit());
+    }
+    fn report(&mut self, _: u64) {}
     fn ack(&mut self, number: u64) {
         assert!(self.receive(PeerInput::Ack { msgno: number }, &HOST).unwrap());
     }
     fn data(&mut self, number: u64, body: &[u8]) {
         assert!(self.receive(PeerInput::Data { msgno: number, body: body.to_vec() }, &HOST).unwrap());
     }
-    fn replay(&mut self) {
+    fn replay(&mut self, _: bool) {
         assert!(self.connectivity("registered", 5000.0, true, &HOST).unwrap());
     }
     fn keepalive(&mut self) {
@@ -247,14 +248,14 @@ struct Row {
     restore: bool,
     /// acks that were not accepted, before
     retries: u64,
-    /// single calls, where the heap wins
-    small: bool,
+    /// the Rust has no such call
+    ours_alone: bool,
 }
 
 static BODY: [u8; 4096] = [0x5a; 4096];
 
 fn row(name: &str, calls: usize, bytes: usize, before: impl Fn(&mut dyn End) + 'static, list: impl Fn(&mut dyn End) + 'static) -> Row {
-    Row { name: name.into(), calls, bytes, before: Box::new(before), list: Box::new(list), start: false, restore: false, retries: 0, small: calls < 8 }
+    Row { name: name.into(), calls, bytes, before: Box::new(before), list: Box::new(list), start: false, restore: false, retries: 0, ours_alone: false }
 }
 
 fn held(count: u64, length: usize) -> impl Fn(&mut dyn End) {
@@ -273,6 +274,14 @@ fn rows() -> Vec<Row> {
     }
     rows.push(row("16 sends of 4,096 bytes", 16, 16 * 4096, |_| {}, |e| (0..16).for_each(|_| e.send(&BODY))));
     rows.push(row("prepare and complete, nothing new", 2, 0, |_| {}, |e| e.commit()));
+    rows.push(row("prepare, 256 unacked", 1, 0, held(256, 240), |e| e.prepare()));
+    let all_unsent = |e: &mut dyn End| {
+        (0..256).for_each(|_| e.send(&BODY[..240]));
+        e.release();
+    };
+    let mut report = row("report of one of 256", 1, 0, all_unsent, |e| e.report(128));
+    report.ours_alone = true;
+    rows.push(report);
     for (length, counts) in [(16, &[1u64, 32, 256][..]), (240, &[1, 32, 256]), (256, &[1, 32, 256]), (4096, &[1, 16])] {
         for &n in counts {
             rows.push(row(
@@ -313,7 +322,8 @@ fn rows() -> Vec<Row> {
     rows.push(row("message 1 after 256 queued, that call alone", 1, 257 * 100, |e| (2..=257).for_each(|n| e.data(n, &BODY[..100])), |e| {
         e.data(1, &BODY[..100])
     }));
-    rows.push(row("replay of 256 of 240 bytes, each reported", 257, 0, held(256, 240), |e| e.replay()));
+    rows.push(row("replay of 256 of 240 bytes, each reported", 257, 0, held(256, 240), |e| e.replay(true)));
+    rows.push(row("replay of 256 of 240 bytes, the call alone", 1, 0, held(256, 240), |e| e.replay(false)));
     let mut keepalive = row("keepalive with 512 retries", 1, 0, |_| {}, |e| e.keepalive());
     keepalive.retries = 512;
     rows.push(keepalive);
@@ -338,9 +348,10 @@ fn nanoseconds(run: impl FnOnce()) -> f64 {
     at.elapsed().as_secs_f64() * 1e9
 }
 
+const SESSION: usize = std::mem::size_of::<link::Session>();
 struct Floor {
-    from: Box<[u8; 19688]>,
-    to: Box<[u8; 19688]>,
+    from: Box<[u8; SESSION]>,
+    to: Box<[u8; SESSION]>,
     bytes: Vec<u8>,
     other: Vec<u8>,
 }
@@ -365,79 +376,100 @@ fn short(ns: f64) -> String {
     }
 }
 
-fn main() {
-    let rounds: usize = std::env::args().nth(1).and_then(|n| n.parse().ok()).unwrap_or(301);
+/// What the rounds gave: the library, the Rust, the floor, and each round's ratios.
+#[derive(Default)]
+struct Times {
+    ours: Vec<f64>,
+    theirs: Vec<f64>,
+    floor: Vec<f64>,
+    to_theirs: Vec<f64>,
+    to_floor: Vec<f64>,
+}
+
+fn measure(row: &Row, rounds: usize, floor: &mut Floor) -> Times {
     let messages: Vec<(u64, &[u8])> = (1..=256).map(|n| (n, &BODY[..240])).collect();
     let numbers: Vec<u64> = (1..=256).collect();
     let (lengths, bodies) = (vec![240u64; 256], vec![0x5au8; 256 * 240]);
-    let mut floor =
-        Floor { from: Box::new([1; 19688]), to: Box::new([2; 19688]), bytes: vec![1; 1 << 18], other: vec![2; 1 << 18] };
-    println!("| list | calls | library | Rust | library / Rust | floor | library / floor |");
-    println!("|---|---|---|---|---|---|---|");
-    for row in rows() {
-        let (mut ours, mut theirs, mut least) = (Vec::new(), Vec::new(), Vec::new());
-        let (mut ratio, mut over) = (Vec::new(), Vec::new());
-        for round in 0..rounds + 5 {
-            let mut link = our_start(1, &[]);
-            let mut session = their_start(1, &[]);
-            for n in 1..=row.retries {
-                assert!(link.report(1, n, false).refusal == 0);
-            }
-            if row.retries > 0 {
-                // the Rust's retries: acks of data that the line did not take
-                for n in 1..=row.retries {
-                    session.data(n, &[]);
-                }
-                let record = session.prepare_commit();
-                session.complete_commit(record, true, &REFUSING).unwrap();
-            }
-            (row.before)(&mut link);
-            (row.before)(&mut session);
-            let (a, b, c);
-            if row.restore {
-                a = nanoseconds(|| link.restore(300, &numbers, &lengths, &bodies));
-                b = nanoseconds(|| session.restore(their_record(300, &messages), None).unwrap());
-            } else if row.start {
-                // into the buffers that are there, as a device has them
-                a = nanoseconds(|| link.start_again(300, &numbers, &lengths, &bodies));
-                let mut made = None;
-                b = nanoseconds(|| made = Some(black_box(their_start(300, &messages))));
-                drop(made);
-            } else {
-                a = nanoseconds(|| (row.list)(&mut link));
-                b = nanoseconds(|| (row.list)(&mut session));
-            }
-            c = nanoseconds(|| floor.run(row.calls, row.bytes));
-            if round < 5 {
-                continue; // warm
-            }
-            ours.push(a);
-            theirs.push(b);
-            least.push(c);
-            ratio.push(a / b);
-            over.push(a / c);
+    let mut times = Times::default();
+    for round in 0..rounds + 5 {
+        let mut link = our_start(1, &[]);
+        let mut session = their_start(1, &[]);
+        for n in 1..=row.retries {
+            assert!(link.report(1, n, false).refusal == 0);
         }
-        println!(
-            "| {} | {} | {} | {} | {:.2} | {} | {:.2} |",
-            row.name,
-            row.calls,
-            short(median(ours)),
-            short(median(theirs)),
-            median(ratio),
-            short(median(least)),
-            median(over)
-        );
+        if row.retries > 0 {
+            // the Rust's retries: acks of data that the line did not take
+            for n in 1..=row.retries {
+                session.data(n, &[]);
+            }
+            let commit = session.prepare_commit();
+            session.complete_commit(commit, true, &REFUSING).unwrap();
+        }
+        (row.before)(&mut link);
+        (row.before)(&mut session);
+        let (a, b);
+        if row.restore {
+            let none = Given { present: false, id: 0, number: 0, sent: false, acknowledged: false };
+            a = nanoseconds(|| assert!(link.restore(record(300), &numbers, &lengths, &bodies, none, &[]).refusal == 0));
+            b = nanoseconds(|| session.restore(their_record(300, &messages), None).unwrap());
+        } else if row.start {
+            // into the buffers that are there, as a device has them
+            a = nanoseconds(|| assert!(link.start_again(3, record(300), &numbers, &lengths, &bodies, b"no").refusal == 0));
+            let mut made = None;
+            b = nanoseconds(|| made = Some(black_box(their_start(300, &messages))));
+            drop(made);
+        } else {
+            a = nanoseconds(|| (row.list)(&mut link));
+            b = nanoseconds(|| (row.list)(&mut session));
+        }
+        let c = nanoseconds(|| floor.run(row.calls, row.bytes));
+        if round < 5 {
+            continue; // warm
+        }
+        times.ours.push(a);
+        times.theirs.push(b);
+        times.floor.push(c);
+        times.to_theirs.push(a / b);
+        times.to_floor.push(a / c);
     }
-    println!();
+    times
+}
+
+fn print(row: &Row, times: Times) {
+    let (theirs, to_theirs) = match row.ours_alone {
+        true => ("none".into(), "".into()),
+        false => (short(median(times.theirs)), format!("{:.2}", median(times.to_theirs))),
+    };
+    let (ours, floor, to_floor) = (short(median(times.ours)), short(median(times.floor)), median(times.to_floor));
+    println!("| {} | {} | {ours} | {theirs} | {to_theirs} | {floor} | {to_floor:.2} |", row.name, row.calls);
+}
+
+fn main() {
+    let rounds: usize = std::env::args().nth(1).and_then(|n| n.parse().ok()).unwrap_or(301);
+    let mut floor = Floor { from: Box::new([1; SESSION]), to: Box::new([2; SESSION]), bytes: vec![1; 1 << 18], other: vec![2; 1 << 18] };
+    let (single, lists): (Vec<Row>, Vec<Row>) = rows().into_iter().partition(|row| row.calls == 1);
+    for (name, rows) in [("Single calls", single), ("Lists of calls", lists)] {
+        println!("## {name}\n");
+        println!("| list | calls | library | Rust | library / Rust | floor | library / floor |");
+        println!("|---|---|---|---|---|---|---|");
+        for row in rows {
+            let times = measure(&row, rounds, &mut floor);
+            print(&row, times);
+        }
+        println!();
+    }
+    let clock = (0..rounds).map(|_| nanoseconds(|| {})).collect();
+    println!("An empty list takes {} by this clock; every figure has that in it.\n", short(median(clock)));
+    println!("## Memory\n");
     println!("| state | library: session and both stores | Rust: peak of the heap, with its struct |");
     println!("|---|---|---|");
-    let fixed = std::mem::size_of::<link::Session>() + link::OUTBOUND_BYTES + link::QUEUE_BYTES;
+    let fixed = SESSION + link::OUTBOUND_BYTES + link::QUEUE_BYTES;
     for (name, list) in [
         ("fresh", Box::new(|_: &mut dyn End| {}) as Box<dyn Fn(&mut dyn End)>),
         ("32 unacked of 16 bytes", Box::new(held(32, 16))),
         ("256 unacked of 240 bytes, pending", Box::new(|e| (0..256).for_each(|_| e.send(&BODY[..240])))),
         ("256 unacked of 240 bytes, committed", Box::new(held(256, 240))),
-        ("the same, replayed", Box::new(|e| { held(256, 240)(e); e.replay(); })),
+        ("the same, replayed", Box::new(|e| { held(256, 240)(e); e.replay(true); })),
         ("256 queued of 100 bytes", Box::new(|e| (2..=257).for_each(|n| e.data(n, &BODY[..100])))),
     ] {
         let before = unsafe { NOW };

@@ -1,6 +1,6 @@
-//! The same as deck.c, in Rust: a counter and a controller over a line that loses, repeats and reorders frames, and a closing round.
+//! The same as deck.c but for the power cuts, in Rust: a counter and a controller over a line that loses, repeats and reorders frames, and a closing round.
 mod link;
-use link::{Link, Reliable, AVAILABLE};
+use link::{Answer, Link, Reliable, AVAILABLE};
 
 const BODIES: u64 = 400;
 const LONGEST: u64 = 120;
@@ -71,8 +71,8 @@ impl End {
     }
 
     /// What the last call listed, in the order of the list.
-    fn act(&mut self, random: &mut Random) {
-        for [code, number, start, length] in self.link.events(self.link.returned.answer.events) {
+    fn act(&mut self, random: &mut Random, answer: Answer) {
+        for [code, number, start, length] in self.link.events(answer) {
             match code {
                 1 => self.asked_to_commit = true,
                 2 => {
@@ -102,8 +102,8 @@ impl End {
         let record = self.link.prepare();
         // here a host writes the record, the session and the stores to its storage
         self.asked_to_commit = false;
-        self.link.complete(record, saved);
-        self.act(random);
+        let answer = self.link.complete(record, saved);
+        self.act(random, answer);
     }
     fn send_next(&mut self, random: &mut Random) {
         let answer = self.link.send(&body(self.who, self.sent + 1));
@@ -114,19 +114,19 @@ impl End {
         if answer.value != self.sent || self.link.fetch(self.sent) != Some(&body(self.who, self.sent)[..]) {
             self.wrong += 1;
         }
-        self.act(random);
+        self.act(random, answer);
     }
     fn receive(&mut self, random: &mut Random, frame: Frame) {
-        match frame {
+        let answer = match frame {
             Frame::Data(number, body) => self.link.data(AVAILABLE, number, 0, &body),
             Frame::Ack(number) => self.link.ack(number),
         };
-        self.act(random);
+        self.act(random, answer);
     }
     fn replay(&mut self, random: &mut Random, force: bool) {
         self.time += 400.0;
-        self.link.connectivity(5, self.time, force);
-        self.act(random);
+        let answer = self.link.connectivity(5, self.time, force);
+        self.act(random, answer);
     }
 }
 
@@ -174,7 +174,7 @@ fn day(seed: u64, loss: u64) -> u64 {
         let found = [
             ("every body came", e.got == BODIES),
             ("each once, in order and whole", e.wrong == 0),
-            ("nothing is left to acknowledge", e.link.returned.session.outbox.count == 0),
+            ("nothing is left to acknowledge", (1..=BODIES).all(|n| e.link.fetch(n).is_none())),
             ("the last is acknowledged", e.acknowledged == BODIES),
         ];
         for (what, good) in found {
@@ -188,7 +188,7 @@ fn day(seed: u64, loss: u64) -> u64 {
 }
 
 fn main() {
-    assert_eq!(std::mem::size_of::<link::Session>(), 19688);
+    assert_eq!(std::mem::size_of::<link::Session>(), 18400);
     let failed: u64 = (1..=6).map(|seed| day(seed, seed % 4 * 15)).sum();
     println!("deck in Rust: {} passed, {failed} failed", 6 * 8 - failed);
     std::process::exit(i32::from(failed > 0));

@@ -6,105 +6,18 @@ pub const DELIVERY_BYTES: usize = 49152;
 pub const OUTBOUND_BYTES: usize = 65536;
 pub const QUEUE_BYTES: usize = 32768;
 
+pub type Words = [u64; 1296];
+pub type Halves = [u32; 772];
+pub type Bytes = [u8; 4936];
+
+/// A session. Its numbers are the link's: read none but by calls, and write none. Save it with both stores.
 #[repr(C)]
-#[derive(Clone, Copy)]
-pub struct Unacked {
-    pub number: u32,
-    pub len: u32,
-    pub pending: bool,
-    pub unsent: bool,
-}
-#[repr(C)]
-#[derive(Clone, Copy)]
-pub struct Outbox {
-    pub next: u64,
-    pub records: [Unacked; 256],
-    pub count: usize,
-}
-#[repr(C)]
-#[derive(Clone, Copy)]
-pub struct Queued {
-    pub number: u64,
-    pub len: u16,
-    pub kind: u8,
-}
-#[repr(C)]
-#[derive(Clone, Copy)]
-pub struct Queue {
-    pub records: [Queued; 256],
-    pub count: usize,
-}
-#[repr(C)]
-#[derive(Clone, Copy)]
-pub struct Numbers {
-    pub values: [u64; 512],
-    pub count: usize,
-}
-#[repr(C)]
-#[derive(Clone, Copy)]
-pub struct Clock {
-    pub last_replay_at: f64,
-    pub generation: u32,
-    pub released: u32,
-    pub persisted: u32,
-}
-#[repr(C)]
-#[derive(Clone, Copy)]
-pub struct Stage {
-    pub terms: u32,
-    pub disposition: u8,
-    pub setup: u8,
-    pub initiator: bool,
-    pub mode: u8,
-    pub failed: bool,
-}
-#[repr(C)]
-#[derive(Clone, Copy)]
-pub struct Given {
-    pub present: bool,
-    pub id: u64,
-    pub number: u64,
-    pub sent: bool,
-    pub acknowledged: bool,
-}
-#[derive(Clone, Copy)]
-pub struct Handoff {
-    pub body: [u8; 4096],
-    pub len: usize,
-    pub id: u64,
-    pub number: u64,
-    pub sent: bool,
-    pub acknowledged: bool,
-    pub present: bool,
-}
-#[repr(C)]
-#[derive(Clone, Copy)]
-pub struct Policy {
-    pub gap: u64,
-    pub messages: usize,
-    pub bytes: usize,
-    pub body: usize,
-}
-#[repr(C)]
-#[derive(Clone, Copy)]
-pub struct RejectBody {
-    pub bytes: [u8; 64],
-    pub len: usize,
-}
-#[repr(C)]
-#[derive(Clone, Copy)]
+#[derive(Clone)]
 pub struct Session {
-    pub outbox: Outbox,
-    pub remote: u64,
-    pub released: u64,
-    pub queue: Queue,
-    pub waiting: Numbers,
-    pub retry: Numbers,
-    pub clock: Clock,
-    pub stage: Stage,
-    pub handoff: Handoff,
-    pub policy: Policy,
-    pub reject: RejectBody,
+    pub last_replay_at: f64,
+    pub words: Words,
+    pub halves: Halves,
+    pub bytes: Bytes,
 }
 #[repr(C)]
 #[derive(Clone, Copy, Debug, Default, PartialEq)]
@@ -118,9 +31,11 @@ pub struct Answer {
 }
 #[repr(C)]
 #[derive(Clone, Copy)]
-pub struct Returned {
-    pub session: Session,
-    pub answer: Answer,
+pub struct Policy {
+    pub gap: u64,
+    pub messages: usize,
+    pub bytes: usize,
+    pub body: usize,
 }
 #[repr(C)]
 #[derive(Clone, Copy)]
@@ -128,6 +43,15 @@ pub struct Reliable {
     pub message_number: u64,
     pub remote_number: u64,
     pub disposition: u64,
+}
+#[repr(C)]
+#[derive(Clone, Copy)]
+pub struct Given {
+    pub present: bool,
+    pub id: u64,
+    pub number: u64,
+    pub sent: bool,
+    pub acknowledged: bool,
 }
 #[repr(C)]
 #[derive(Clone, Copy)]
@@ -150,36 +74,68 @@ pub struct ClassPolicy {
     pub known: bool,
 }
 
+/// Calls that change the session, which is lent first.
+macro_rules! changing {
+    ($($name:ident($($argument:ident: $type:ty),*);)*) => {
+        extern "C" {
+            $(pub fn $name(words: &mut Words, halves: &mut Halves, bytes: &mut Bytes, last_replay_at: &mut f64, $($argument: $type),*) -> Answer;)*
+        }
+    };
+}
+/// Calls that read it.
+macro_rules! reading {
+    ($($name:ident($($argument:ident: $type:ty),*) -> $answer:ty;)*) => {
+        extern "C" {
+            $(pub fn $name(words: &Words, halves: &Halves, bytes: &Bytes, last_replay_at: &f64, $($argument: $type),*) -> $answer;)*
+        }
+    };
+}
 extern "C" {
     pub fn link_class(class: u64) -> ClassPolicy;
-    pub fn link_start(
+}
+changing! {
+    link_start(
         record: Reliable, numbers: *const u64, numbers_len: usize, lengths: *const u64, lengths_len: usize, bodies: *const u8, bodies_len: usize,
-        policy: Policy, reject: *const u8, reject_len: usize, outbound: *mut u8, outbound_len: usize, queue: *mut u8, queue_len: usize,
-    ) -> Returned;
-    pub fn link_restore(
-        s: Session, outbound: *mut u8, outbound_len: usize, record: Reliable, numbers: *const u64, numbers_len: usize, lengths: *const u64,
-        lengths_len: usize, bodies: *const u8, bodies_len: usize, given: Given, body: *const u8, body_len: usize,
-    ) -> Returned;
-    pub fn link_send(s: Session, list: *mut u64, list_len: usize, outbound: *mut u8, outbound_len: usize, body: *const u8, body_len: usize) -> Returned;
-    pub fn link_prepare(s: Session) -> Answer;
-    pub fn link_complete(s: Session, list: *mut u64, list_len: usize, commit: Commit, persisted: bool) -> Returned;
-    pub fn link_report(s: Session, list: *mut u64, list_len: usize, what: u64, number: u64, accepted: bool) -> Returned;
-    pub fn link_connectivity(s: Session, list: *mut u64, list_len: usize, event: u64, time: f64, force: bool) -> Returned;
-    pub fn link_find(s: Session, outbound: *const u8, outbound_len: usize, number: u64) -> Answer;
-    pub fn link_data(
-        s: Session, list: *mut u64, list_len: usize, delivery: *mut u8, delivery_len: usize, outbound: *mut u8, outbound_len: usize, queue: *mut u8,
-        queue_len: usize, status: Status, number: u64, kind: u64, body: *const u8, body_len: usize,
-    ) -> Returned;
-    pub fn link_ack(
-        s: Session, list: *mut u64, list_len: usize, outbound: *mut u8, outbound_len: usize, queue: *mut u8, queue_len: usize, number: u64,
-    ) -> Returned;
-    pub fn link_keepalive(s: Session, list: *mut u64, list_len: usize) -> Answer;
-    pub fn link_dirty(s: Session) -> bool;
+        policy: Policy, reject: *const u8, reject_len: usize, outbound: *mut u8, outbound_len: usize, queue: *mut u8, queue_len: usize
+    );
+    link_restore(
+        outbound: *mut u8, outbound_len: usize, record: Reliable, numbers: *const u64, numbers_len: usize, lengths: *const u64, lengths_len: usize,
+        bodies: *const u8, bodies_len: usize, given: Given, body: *const u8, body_len: usize
+    );
+    link_send(list: *mut u64, list_len: usize, outbound: *mut u8, outbound_len: usize, body: *const u8, body_len: usize);
+    link_complete(list: *mut u64, list_len: usize, commit: Commit, persisted: bool);
+    link_report(list: *mut u64, list_len: usize, what: u64, number: u64, accepted: bool);
+    link_connectivity(list: *mut u64, list_len: usize, event: u64, time: f64, force: bool);
+    link_data(
+        list: *mut u64, list_len: usize, delivery: *mut u8, delivery_len: usize, outbound: *mut u8, outbound_len: usize, queue: *mut u8,
+        queue_len: usize, status: Status, number: u64, kind: u64, body: *const u8, body_len: usize
+    );
+    link_ack(list: *mut u64, list_len: usize, outbound: *mut u8, outbound_len: usize, queue: *mut u8, queue_len: usize, number: u64);
+}
+reading! {
+    link_prepare() -> Answer;
+    link_find(outbound: *const u8, outbound_len: usize, number: u64) -> Answer;
+    link_keepalive(list: *mut u64, list_len: usize) -> Answer;
+    link_dirty() -> bool;
+}
+
+/// A call on a session: its four parts are lent, then the arguments. The pointers and lengths below are those of live slices that do not overlap.
+macro_rules! change {
+    ($call:ident, $session:expr $(, $argument:expr)*) => {{
+        let s: &mut Session = &mut *$session;
+        unsafe { $call(&mut s.words, &mut s.halves, &mut s.bytes, &mut s.last_replay_at $(, $argument)*) }
+    }};
+}
+macro_rules! read {
+    ($call:ident, $session:expr $(, $argument:expr)*) => {{
+        let s: &Session = &*$session;
+        unsafe { $call(&s.words, &s.halves, &s.bytes, &s.last_replay_at $(, $argument)*) }
+    }};
 }
 
 /// An end of the link: its session with the two stores, and the buffers that it lends to each call.
 pub struct Link {
-    pub returned: Returned,
+    pub session: Box<Session>,
     pub outbound: Vec<u8>,
     pub queue: Vec<u8>,
     pub delivery: Vec<u8>,
@@ -189,20 +145,40 @@ pub struct Link {
 pub const AVAILABLE: Status = Status { available: true, established: false, discarding: false };
 
 impl Link {
+    /// The buffers, and a session of zeros, which every call but a start refuses by 3.
+    pub fn empty() -> Link {
+        Link {
+            session: Box::new(Session { last_replay_at: 0.0, words: [0; 1296], halves: [0; 772], bytes: [0; 4936] }),
+            outbound: vec![0; OUTBOUND_BYTES],
+            queue: vec![0; QUEUE_BYTES],
+            delivery: vec![0; DELIVERY_BYTES],
+            list: vec![0; LIST_WORDS],
+        }
+    }
     /// A fresh end of a link class, or of one whose record and messages are these.
     pub fn start(class: u64, record: Reliable, messages: &[(u64, &[u8])], reject: &[u8]) -> Link {
-        let (mut outbound, mut queue) = (vec![0; OUTBOUND_BYTES], vec![0; QUEUE_BYTES]);
         let numbers: Vec<u64> = messages.iter().map(|m| m.0).collect();
         let lengths: Vec<u64> = messages.iter().map(|m| m.1.len() as u64).collect();
         let bodies: Vec<u8> = messages.iter().flat_map(|m| m.1.iter().copied()).collect();
-        // The pointers and lengths are those of live slices that do not overlap.
-        let returned = unsafe {
-            link_start(
-                record, numbers.as_ptr(), numbers.len(), lengths.as_ptr(), lengths.len(), bodies.as_ptr(), bodies.len(), link_class(class).policy,
-                reject.as_ptr(), reject.len(), outbound.as_mut_ptr(), outbound.len(), queue.as_mut_ptr(), queue.len(),
-            )
-        };
-        Link { returned, outbound, queue, delivery: vec![0; DELIVERY_BYTES], list: vec![0; LIST_WORDS] }
+        let mut link = Link::empty();
+        link.start_again(class, record, &numbers, &lengths, &bodies, reject);
+        link
+    }
+    /// A new session in the buffers that are there. A refused start leaves the session that was there.
+    pub fn start_again(&mut self, class: u64, record: Reliable, numbers: &[u64], lengths: &[u64], bodies: &[u8], reject: &[u8]) -> Answer {
+        let ((o, on), (q, qn)) = (self.lend_outbound(), self.lend_queue());
+        let policy = unsafe { link_class(class).policy };
+        change!(
+            link_start, self.session, record, numbers.as_ptr(), numbers.len(), lengths.as_ptr(), lengths.len(), bodies.as_ptr(), bodies.len(), policy,
+            reject.as_ptr(), reject.len(), o, on, q, qn
+        )
+    }
+    pub fn restore(&mut self, record: Reliable, numbers: &[u64], lengths: &[u64], bodies: &[u8], given: Given, body: &[u8]) -> Answer {
+        let (o, on) = self.lend_outbound();
+        change!(
+            link_restore, self.session, o, on, record, numbers.as_ptr(), numbers.len(), lengths.as_ptr(), lengths.len(), bodies.as_ptr(), bodies.len(),
+            given, body.as_ptr(), body.len()
+        )
     }
     fn lend(&mut self) -> (*mut u64, usize) {
         (self.list.as_mut_ptr(), self.list.len())
@@ -215,53 +191,47 @@ impl Link {
     }
     pub fn send(&mut self, body: &[u8]) -> Answer {
         let ((l, ln), (o, on)) = (self.lend(), self.lend_outbound());
-        self.returned = unsafe { link_send(self.returned.session, l, ln, o, on, body.as_ptr(), body.len()) };
-        self.returned.answer
+        change!(link_send, self.session, l, ln, o, on, body.as_ptr(), body.len())
     }
     pub fn prepare(&self) -> Commit {
-        let a = unsafe { link_prepare(self.returned.session) };
+        let a = read!(link_prepare, self.session);
         Commit { generation: a.value as u32, outbound: a.second, remote: a.third }
     }
     pub fn complete(&mut self, commit: Commit, persisted: bool) -> Answer {
         let (l, ln) = self.lend();
-        self.returned = unsafe { link_complete(self.returned.session, l, ln, commit, persisted) };
-        self.returned.answer
+        change!(link_complete, self.session, l, ln, commit, persisted)
     }
     pub fn report(&mut self, what: u64, number: u64, accepted: bool) -> Answer {
         let (l, ln) = self.lend();
-        self.returned = unsafe { link_report(self.returned.session, l, ln, what, number, accepted) };
-        self.returned.answer
+        change!(link_report, self.session, l, ln, what, number, accepted)
     }
     pub fn connectivity(&mut self, event: u64, time: f64, force: bool) -> Answer {
         let (l, ln) = self.lend();
-        self.returned = unsafe { link_connectivity(self.returned.session, l, ln, event, time, force) };
-        self.returned.answer
+        change!(link_connectivity, self.session, l, ln, event, time, force)
     }
     pub fn data(&mut self, status: Status, number: u64, kind: u64, body: &[u8]) -> Answer {
         let ((l, ln), (o, on), (q, qn)) = (self.lend(), self.lend_outbound(), self.lend_queue());
         let (d, dn) = (self.delivery.as_mut_ptr(), self.delivery.len());
-        self.returned = unsafe { link_data(self.returned.session, l, ln, d, dn, o, on, q, qn, status, number, kind, body.as_ptr(), body.len()) };
-        self.returned.answer
+        change!(link_data, self.session, l, ln, d, dn, o, on, q, qn, status, number, kind, body.as_ptr(), body.len())
     }
     pub fn ack(&mut self, number: u64) -> Answer {
         let ((l, ln), (o, on), (q, qn)) = (self.lend(), self.lend_outbound(), self.lend_queue());
-        self.returned = unsafe { link_ack(self.returned.session, l, ln, o, on, q, qn, number) };
-        self.returned.answer
+        change!(link_ack, self.session, l, ln, o, on, q, qn, number)
     }
     pub fn keepalive(&mut self) -> Answer {
         let (l, ln) = self.lend();
-        unsafe { link_keepalive(self.returned.session, l, ln) }
+        read!(link_keepalive, self.session, l, ln)
     }
     /// The body of a held number, as a part of the outbound store.
     pub fn fetch(&self, number: u64) -> Option<&[u8]> {
-        let a = unsafe { link_find(self.returned.session, self.outbound.as_ptr(), self.outbound.len(), number) };
+        let a = read!(link_find, self.session, self.outbound.as_ptr(), self.outbound.len(), number);
         (a.kind == 4).then(|| &self.outbound[a.value as usize..][..a.second as usize])
     }
     pub fn dirty(&self) -> bool {
-        unsafe { link_dirty(self.returned.session) }
+        read!(link_dirty, self.session)
     }
-    /// The events of the last call.
-    pub fn events(&self, count: usize) -> Vec<[u64; 4]> {
-        self.list[..4 * count].chunks(4).map(|v| [v[0], v[1], v[2], v[3]]).collect()
+    /// The events of a call, the last one.
+    pub fn events(&self, answer: Answer) -> Vec<[u64; 4]> {
+        self.list[..4 * answer.events].chunks(4).map(|v| [v[0], v[1], v[2], v[3]]).collect()
     }
 }
