@@ -1,24 +1,96 @@
--- A call on what a C struct opens as is a call driven. Assumes nothing.
+-- A driver's call on the session that the lent parts are is a call driven. Assumes nothing.
+use Prim.Native.Nat.{ℕ}
 use mathlib.Core.Path.{_≡_, refl, sym, ap, _∙_, subst}
+use mathlib.Core.Bool.{Bool, true, false, not, true≢false}
+use mathlib.Core.Option.{Option}
 use Rattle.rules.specs.declared.Answer.{Answer}
+use Rattle.rules.specs.Buffers.{Lent, taken-by, short, wrong-code}
+use Rattle.rules.specs.State as R
+use Rattle.rules.specs.Start.{Reliable}
+use Rattle.rules.specs.Calls.{Call, restores}
 use Rattle.peer_session.specs.declared.SessionState.{SessionState}
+use Rattle.peer_session.specs.Sound.{soundOf, Checked}
+use Rattle.peer_session.specs.View.{Held, held}
 use Rattle.session.specs.declared.Returned.{Returned}
 use Rattle.session.specs.declared.Told.{Told}
-use Rattle.link_codes.specs.declared.LinkSession.{LinkSession}
-use Rattle.link_codes.specs.declared.LinkAnswer.{LinkAnswer}
-use Rattle.link_codes.specs.declared.LinkReturned.{LinkReturned}
-use Rattle.link_codes.specs.Codes.{openedOf, answerOf, closedOf, begunOf}
-use Rattle.link_c.specs.Driven.{Driven, DrivenStart, DrivenTold, DrivenAnswer}
+use Rattle.session.specs.Promise.{Exit, exit, promise, Called}
+use Rattle.session.proofs.Promises.{promise-short, promise-code, promise-unsound}
+use Rattle.restores.specs.Restored.{restorePromise}
+use Rattle.parts.specs.declared.LinkAnswer.{LinkAnswer}
+use Rattle.parts.specs.Codes.{answerOf}
+use Rattle.parts.specs.Parts.{Parts, openedOf}
+use Rattle.parts.specs.Driven.{Driven, DrivenStart, DrivenTold, DrivenAnswer, is-refusal}
+use Rattle.link_c.specs.Finished.{Finished}
 
-module _ {c : LinkSession} {s : SessionState} (opens : s ≡ openedOf c) where
-  pub drives : {x : LinkReturned} {Call : SessionState → Returned → Type 0} (r : Returned) → Call s r → x ≡ closedOf c r → Driven c x Call
-  drives {Call = Call} r h e = record { returned = r; called = subst (λ (t : SessionState). Call t r) opens h; closes = e }
+-- a refusal as a call would return it that hands the very session back
+abbrev pub handing : SessionState → Returned → Returned
+handing s r = record { session = s; answer = r .answer; events = r .events }
 
-  pub drives-told : {x : LinkAnswer} {Call : SessionState → Told → Type 0} (r : Told) → Call s r → x ≡ answerOf (r .answer) (r .events) → DrivenTold c x Call
-  drives-told {Call = Call} r h e = record { returned = r; called = subst (λ (t : SessionState). Call t r) opens h; closes = e }
+cases : {A : Type 0} (b : Bool) → (b ≡ true → A) → (b ≡ false → A) → A
+cases true f g = f refl
+cases false f g = g refl
 
-  pub drives-answer : {x : LinkAnswer} {Call : SessionState → Answer → Type 0} (r : Answer) → Call s r → x ≡ answerOf r 0 → DrivenAnswer c x Call
-  drives-answer {Call = Call} r h e = record { returned = r; called = subst (λ (t : SessionState). Call t r) opens h; closes = e }
+-- ---- of a session that no calls leave, a call promises the session that it got
 
-pub drives-start : {x : LinkReturned} {Call : Returned → Type 0} (r : Returned) → Call r → x ≡ begunOf r → DrivenStart x Call
-drives-start r h e = record { returned = r; called = h; closes = e }
+module _ (c : Call) (s : SessionState) (l : Lent) (unsound : soundOf s ≡ false) where
+  pub held-kept : promise c s l .session ≡ held s
+  held-kept =
+      cases (short (taken-by c) l) (λ e. ap (λ (x : Exit). x .session) (promise-short c s l e)) (λ a.
+      cases (wrong-code c) (λ e. ap (λ (x : Exit). x .session) (promise-code c s l a e)) (λ b.
+      ap (λ (x : Exit). x .session) (promise-unsound c s l a b unsound)))
+
+  pub called-kept : (r : Returned) {l′ : Lent} → Called c s l r l′ → Called c s l (handing s r) l′
+  called-kept r {l′} e =
+      ap (λ (h : Held). exit h (r .answer) (r .events) l′) (sym held-kept ∙ sym (ap (λ (x : Exit). x .session) e)) ∙ e
+
+-- the same of a restore
+module _ (r : Reliable) (h : Option R.Handoff) (short-of : Bool) (s : SessionState) (l : Lent) (unsound : soundOf s ≡ false) where
+  restore-held : restorePromise r h short-of s l .session ≡ held s
+  unfolding restorePromise
+  restore-held = cases short-of (λ e. rw e) (λ e. rw e (held-kept (restores r h) s l unsound))
+
+  pub restored-kept : (x : Returned) {l′ : Lent} → exit (held (x .session)) (x .answer) (x .events) l′ ≡ restorePromise r h short-of s l
+      → exit (held s) (x .answer) (x .events) l′ ≡ restorePromise r h short-of s l
+  restored-kept x {l′} e =
+      ap (λ (k : Held). exit k (x .answer) (x .events) l′) (sym restore-held ∙ sym (ap (λ (y : Exit). y .session) e)) ∙ e
+
+-- ---- calls driven
+
+module _ {p p′ : Parts} {s : SessionState} (opens : s ≡ openedOf p) {good : Bool} (checked : Checked s good) {x : LinkAnswer} {Call : SessionState → Returned → Type 0} where
+  -- `same`: where no calls leave the session, the call's contract allows that very session to be handed back
+  pub drives : (r : Returned) → Call s r → ((y : Returned) → soundOf s ≡ false → Call s y → Call s (handing s y)) → Finished p p′ good r x → Driven p p′ x Call
+  drives r called same f =
+      let is : good ≡ soundOf (openedOf p) = checked .is ∙ ap soundOf opens in
+      cases good
+      (λ e. record {
+        returned = r;
+        called = subst (λ (t : SessionState). Call t r) opens called;
+        leaves = f .leaves e;
+        answers = f .answers;
+        kept = λ h. absurd (true≢false (sym e ∙ is ∙ h));
+      })
+      (λ e. record {
+        returned = handing s r;
+        called = subst (λ (t : SessionState). Call t (handing s r)) opens (same r (sym (checked .is) ∙ e) called);
+        leaves = ap openedOf (f .kept e) ∙ sym opens;
+        answers = f .answers;
+        kept = λ h. f .kept e;
+      })
+
+module _ {p : Parts} {s : SessionState} (opens : s ≡ openedOf p) {x : LinkAnswer} where
+  pub drives-told : {Call : SessionState → Told → Type 0} (r : Told) → Call s r → x ≡ answerOf (r .answer) (r .events) → DrivenTold p x Call
+  drives-told {Call = Call} r h e = record { returned = r; called = subst (λ (t : SessionState). Call t r) opens h; answers = e }
+
+  pub drives-answer : {Call : SessionState → Answer → Type 0} (r : Answer) → Call s r → x ≡ answerOf r 0 → DrivenAnswer p x Call
+  drives-answer {Call = Call} r h e = record { returned = r; called = subst (λ (t : SessionState). Call t r) opens h; answers = e }
+
+pub drives-start : {p p′ : Parts} {x : LinkAnswer} {Call : Returned → Type 0} {goes : Bool} (r : Returned) → Call r → goes ≡ not (is-refusal (r .answer)) → Finished p p′ goes r x
+    → DrivenStart p p′ x Call
+drives-start r h e f =
+    record {
+      returned = r;
+      called = h;
+      leaves = λ k. f .leaves (e ∙ ap not k);
+      answers = f .answers;
+      kept = λ k. f .kept (e ∙ ap not k);
+    }

@@ -1,3 +1,2 @@
--- The laws of link_c.
+-- The laws of the calls for C.
 pub mod Drives
-pub mod Changes

@@ -1,2 +1,3 @@
--- What the contracts of `link_c` cite.
-pub mod Driven
+-- What the contracts of the calls for C cite.
+pub mod Forms
+pub mod Finished

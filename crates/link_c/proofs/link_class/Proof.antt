@@ -1,6 +1,6 @@
 use mathlib.Core.Path.{sym, ap, _∙_}
 use Rattle.starts.specs.declared.LinkClass.{LinkClass}
-use Rattle.link_c.specs.Driven.{policyOf}
+use Rattle.link_c.specs.Forms.{policyOf}
 use borrow.Author.Needs.{needs}
 use Rattle.link_c.proofs.link_class.Statement.{statement}
 use Rattle.link_c.proofs.link_class.Tie as tie
@@ -9,27 +9,27 @@ use Rattle.link_c.proofs.link_class.Lts as lts
 use Rattle.link_c.proofs.no_policy.Reads as no-policy-reads
 use Rattle.starts.proofs.link_class.Reads as link-class-reads
 
--- src/lib.rt:113:9
+-- src/lib.rt:53:9
 link-class-requires : tie.Need-link-class-requires
 link-class-requires c κs = search needs
 
--- src/lib.rt:115:26
+-- src/lib.rt:55:26
 enum-known-k : tie.Need-enum-known-k
 enum-known-k c = search needs
 
--- src/lib.rt:119:31
+-- src/lib.rt:59:31
 enum-told : tie.Need-enum-told
 enum-told c = search needs
 
--- src/lib.rt:119:31
+-- src/lib.rt:59:31
 no-policy-requires : tie.Need-no-policy-requires
 no-policy-requires c κs = search needs
 
--- src/lib.rt:109:1
+-- src/lib.rt:49:1
 returns : tie.Need-returns
 returns c = sym (ap (λ (t : LinkClass). policyOf t) (c .before .k .given .1)) ∙ ap (λ (t : LinkClass). policyOf t) (c .before .before .before .link-class .ensures)
 
--- src/lib.rt:109:1
+-- src/lib.rt:49:1
 returns-2 : tie.Need-returns-2
 returns-2 c = c .no-policy .ensures ∙ sym (ap (λ (t : LinkClass). policyOf t) (c .before .enum-told .given .1)) ∙ ap (λ (t : LinkClass). policyOf t) (c .before .before .before .link-class .ensures)
 

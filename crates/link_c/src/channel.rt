@@ -1,0 +1,133 @@
+// A channel's setup and its end.
+ghost use Rattle.rules.specs.Calls.{accepts, rejects, prepares-channel, retires, commands};
+ghost use Rattle.session.specs.Promise.{CalledWithOutbound, CalledWithOutboundAlone, CalledWithStoresAlone, CalledAlone};
+ghost use Rattle.handoffs.specs.Commands.{commandOf};
+ghost use Rattle.restores.specs.Restored.{Restored};
+ghost use Rattle.parts.specs.Parts.{parts};
+ghost use Rattle.parts.specs.Driven.{Driven};
+use crate::drive;
+use parts::Bytes;
+use parts::Halves;
+use parts::LinkAnswer;
+use parts::Words;
+use restores::Handoff;
+use rules::Terms;
+use starts::Reliable;
+
+// A proposal is accepted, or made.
+#[no_mangle]
+pub extern "C" fn link_accept(
+    words: &mut Words,
+    halves: &mut Halves,
+    bytes: &mut Bytes,
+    clock: &mut f64,
+    outbound: &mut [u8],
+    terms: Terms,
+    body: &[u8],
+) -> LinkAnswer
+    ensures { λ x. ⌜ Driven (parts (now (words .entry)) (now (halves .entry)) (now (bytes .entry)) (now (clock .entry))) (parts (now (words .exit)) (now (halves .exit)) (now (bytes .exit)) (now (clock .exit))) x (λ s y. CalledWithOutboundAlone (accepts terms (now (body .entry))) s (now (outbound .entry)) y (now (outbound .exit))) ⌝ }
+{
+    let s = link_codes::opened(words, halves, bytes, clock);
+    let sound = peer_session::sound(s);
+    let r = setup::accept_session(s, outbound, terms, body);
+    drive::finished(words, halves, bytes, clock, sound, r)
+}
+
+// The proposal is rejected.
+#[no_mangle]
+pub extern "C" fn link_reject(
+    words: &mut Words,
+    halves: &mut Halves,
+    bytes: &mut Bytes,
+    clock: &mut f64,
+    list: &mut [u64],
+    outbound: &mut [u8],
+) -> LinkAnswer
+    ensures { λ x. ⌜ Driven (parts (now (words .entry)) (now (halves .entry)) (now (bytes .entry)) (now (clock .entry))) (parts (now (words .exit)) (now (halves .exit)) (now (bytes .exit)) (now (clock .exit))) x (λ s y. CalledWithOutbound rejects s (now (list .entry)) (now (outbound .entry)) y (now (list .exit)) (now (outbound .exit))) ⌝ }
+{
+    let s = link_codes::opened(words, halves, bytes, clock);
+    let sound = peer_session::sound(s);
+    let r = setup::reject_session(s, list, outbound);
+    drive::finished(words, halves, bytes, clock, sound, r)
+}
+
+// The channel of these terms is made.
+#[no_mangle]
+pub extern "C" fn link_prepare_channel(
+    words: &mut Words,
+    halves: &mut Halves,
+    bytes: &mut Bytes,
+    clock: &mut f64,
+    terms: Terms,
+) -> LinkAnswer
+    ensures { λ x. ⌜ Driven (parts (now (words .entry)) (now (halves .entry)) (now (bytes .entry)) (now (clock .entry))) (parts (now (words .exit)) (now (halves .exit)) (now (bytes .exit)) (now (clock .exit))) x (λ s y. CalledAlone (prepares-channel terms) s y) ⌝ }
+{
+    let s = link_codes::opened(words, halves, bytes, clock);
+    let sound = peer_session::sound(s);
+    let r = setup::prepare_channel(s, terms);
+    drive::finished(words, halves, bytes, clock, sound, r)
+}
+
+// The setup ends; its messages are kept or dropped.
+#[no_mangle]
+pub extern "C" fn link_retire(
+    words: &mut Words,
+    halves: &mut Halves,
+    bytes: &mut Bytes,
+    clock: &mut f64,
+    outbound: &mut [u8],
+    queue: &mut [u8],
+    retain: bool,
+) -> LinkAnswer
+    ensures { λ x. ⌜ Driven (parts (now (words .entry)) (now (halves .entry)) (now (bytes .entry)) (now (clock .entry))) (parts (now (words .exit)) (now (halves .exit)) (now (bytes .exit)) (now (clock .exit))) x (λ s y. CalledWithStoresAlone (retires retain) s (now (outbound .entry)) (now (queue .entry)) y (now (outbound .exit)) (now (queue .exit))) ⌝ }
+{
+    let s = link_codes::opened(words, halves, bytes, clock);
+    let sound = peer_session::sound(s);
+    let r = setup::retire(s, outbound, queue, retain);
+    drive::finished(words, halves, bytes, clock, sound, r)
+}
+
+// A channel's command: none, or a terminal handoff with this id and body.
+#[no_mangle]
+pub extern "C" fn link_command(
+    words: &mut Words,
+    halves: &mut Halves,
+    bytes: &mut Bytes,
+    clock: &mut f64,
+    list: &mut [u64],
+    outbound: &mut [u8],
+    restoring: bool,
+    present: bool,
+    id: u64,
+    body: &[u8],
+) -> LinkAnswer
+    ensures { λ x. ⌜ Driven (parts (now (words .entry)) (now (halves .entry)) (now (bytes .entry)) (now (clock .entry))) (parts (now (words .exit)) (now (halves .exit)) (now (bytes .exit)) (now (clock .exit))) x (λ s y. CalledWithOutbound (commands restoring (commandOf present id (now (body .entry)))) s (now (list .entry)) (now (outbound .entry)) y (now (list .exit)) (now (outbound .exit))) ⌝ }
+{
+    let s = link_codes::opened(words, halves, bytes, clock);
+    let sound = peer_session::sound(s);
+    let r = handoffs::channel_command(s, list, outbound, restoring, present, id, body);
+    drive::finished(words, halves, bytes, clock, sound, r)
+}
+
+// The session, which has done nothing yet, takes a record and a handoff.
+#[no_mangle]
+pub extern "C" fn link_restore(
+    words: &mut Words,
+    halves: &mut Halves,
+    bytes: &mut Bytes,
+    clock: &mut f64,
+    outbound: &mut [u8],
+    record: Reliable,
+    numbers: &[u64],
+    lengths: &[u64],
+    bodies: &[u8],
+    given: Handoff,
+    body: &[u8],
+) -> LinkAnswer
+    ensures { λ x. ⌜ Driven (parts (now (words .entry)) (now (halves .entry)) (now (bytes .entry)) (now (clock .entry))) (parts (now (words .exit)) (now (halves .exit)) (now (bytes .exit)) (now (clock .exit))) x (λ s y. Restored «record» (now (numbers .entry)) (now (lengths .entry)) (now (bodies .entry)) given (now (body .entry)) s (now (outbound .entry)) y (now (outbound .exit))) ⌝ }
+{
+    let s = link_codes::opened(words, halves, bytes, clock);
+    let sound = peer_session::sound(s);
+    let r = restores::restore(s, outbound, record, numbers, lengths, bodies, given, body);
+    drive::finished(words, halves, bytes, clock, sound, r)
+}
