@@ -1,0 +1,1 @@
+// Commits on the parts of a session.
