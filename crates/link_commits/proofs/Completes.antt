@@ -12,6 +12,8 @@ use Rattle.rules.specs.declared.PreparedCommit.{PreparedCommit}
 use Rattle.rules.specs.declared.Refusal.{Refusal}
 use Rattle.rules.specs.declared.Refusal.the-variants.{ShortBuffer, BadRecord, CommitNumber}
 use Rattle.rules.specs.Calls.{prepares, completes}
+use Rattle.events.specs.declared.Stop.{Stop}
+use Rattle.events.specs.declared.Stop.the-variants.{No, By}
 use Rattle.events.specs.Written.{Listed}
 use Rattle.outbox.specs.Sound.{soundOutbox}
 use Rattle.outbox.proofs.View.{sound-facts}
@@ -29,7 +31,7 @@ use Rattle.parts.specs.Driven.{Driven, DrivenAnswer}
 use Rattle.parts.proofs.Fields.{agree-set, outbox-same}
 use Rattle.parts.proofs.After.{agree-all}
 use Rattle.parts.proofs.Drives.{changes, refuses, answers}
-use Rattle.link_commits.specs.Completes.{Ready, Turns, MayReleaseIn, ReleasesIn}
+use Rattle.link_commits.specs.Completes.{Ready, Turns, Found, MayReleaseIn, ReleasesIn}
 use Rattle.link_commits.proofs.Releases.{persisted}
 
 -- ---- the tests
@@ -49,10 +51,13 @@ module _ (p : Parts) {n : ℕ} (c : PreparedCommit) where
       pub remote-past : c .outbound ≤ 18446744073709551614 → 18446744073709551614 < c .remote → Turns p n c CommitNumber
       remote-past ho h = record { call = λ b l e r t. C.remote-refused c b (openedOf p) l (omega (arith, e)) sound full ho t h }
 
--- a refusal by them
-pub turned : (p : Parts) (l : List ℕ) (c : PreparedCommit) (b : Bool) (x : Refusal) → Turns p (length l) c x → {y : LinkAnswer} → y ≡ answerOf (Refused x) 0
-    → Driven p p y (λ s r. CalledWithList (completes c b) s l r l)
-turned p l c b x k e = refuses p x e (λ r u. k .call b l refl r u)
+-- what they found
+pub found-ready : (p : Parts) (n : ℕ) (c : PreparedCommit) (r : Stop) → r ≡ No → Found p n c r → Ready p n c
+found-ready p n c r e f = subst (λ (r : Stop). Found p n c r) e f
+
+pub turned : (p : Parts) (l : List ℕ) (c : PreparedCommit) (b : Bool) (r : Stop) (x : Refusal) → r ≡ By x → Found p (length l) c r
+    → {y : LinkAnswer} → y ≡ answerOf (Refused x) 0 → Driven p p y (λ s r. CalledWithList (completes c b) s l r l)
+turned p l c b r x e f a = refuses p x a (λ r u. subst (λ (r : Stop). Found p (length l) c r) e f .call b l refl r u)
 
 -- ---- past them
 
@@ -69,7 +74,7 @@ module _ (w h b : List ℕ) (t : Float) {n : ℕ} {c : PreparedCommit} (ready : 
   unfolding openedOf
   long-bytes = long-section 4872 64 b (omega arith) (ready .full .reject)
 
-module _ (w h b : List ℕ) (t : Float) (l : List ℕ) (c : PreparedCommit) (p : Bool) (lh : 772 ≤ length h) (ready : Ready (parts w h b t) (length l) c) (k : Clock)
+module _ (w h b : List ℕ) (t : Float) (l : List ℕ) (c : PreparedCommit) (p : Bool) (ready : Ready (parts w h b t) (length l) c) (k : Clock)
     (persists : Persists p c (clockIn h t) k) where
   abbrev s : SessionState
   s = openedOf (parts w h b t)
@@ -79,7 +84,7 @@ module _ (w h b : List ℕ) (t : Float) (l : List ℕ) (c : PreparedCommit) (p :
   raised = set h 770 (k .persisted)
 
   is : openedOf (parts w raised b t) ≡ clocked k s
-  is = persisted w h b t (long-words w h b t ready) lh (long-bytes w h b t ready) p c k persists
+  is = persisted w h b t (long-words w h b t ready) (ready .halves) (long-bytes w h b t ready) p c k persists
 
   pub may : MayReleaseIn w raised b (length l)
   unfolding openedOf
@@ -90,8 +95,9 @@ module _ (w h b : List ℕ) (t : Float) (l : List ℕ) (c : PreparedCommit) (p :
         sound = ap soundOutbox e ∙ v .outbox;
         messages = sound-facts (s .outbox) (v .outbox) .few;
         acks = v .waiting;
-        bytes = long-bytes w h b t ready;
         words = long-words w h b t ready;
+        halves = omega (arith, ready .halves, length-set h 770 (k .persisted));
+        bytes = long-bytes w h b t ready;
         room = ready .list;
       }
 

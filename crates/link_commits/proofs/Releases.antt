@@ -139,12 +139,12 @@ module _ (c : PreparedCommit) (w h b l : List ℕ) where
   unfolding openedOf
   released-before e t = C.released-before c (openedOf (parts w h b t)) l e
 
-  pub released-now : at h 769 < c .generation → MayReleaseIn w h b (length l) → 772 ≤ length h → (w₁ b′ l₁ l₂ : List ℕ) (n m : ℕ)
+  pub released-now : at h 769 < c .generation → MayReleaseIn w h b (length l) → (w₁ b′ l₁ l₂ : List ℕ) (n m : ℕ)
       → Releases (c .outbound) (outboxIn w h b) l 0 (record { outbox = outboxIn w h b′; events = n }) l₁ → Past 512 b b′
       → ReleasesAcks (c .remote) (waitingIn w) l₁ n (record { numbers = waitingIn w₁; events = m }) l₂ → Only 272 5 w w₁
       → ReleasesIn c w h b l (set w₁ 3 (c .remote)) (set h 769 (c .generation)) b′ l₂ m
   unfolding openedOf
-  released-now e may lh w₁ b′ l₁ l₂ n m r past a only t =
+  released-now e may w₁ b′ l₁ l₂ n m r past a only t =
       subst (λ (s : SessionState). ReleasesBy c (openedOf (parts w h b t)) l (record { session = s; events = m }) l₂)
-      (sym (left c w h b t (may .words) lh (may .bytes) w₁ b′ only past))
+      (sym (left c w h b t (may .words) (may .halves) (may .bytes) w₁ b′ only past))
       (C.released-now c (openedOf (parts w h b t)) l (record { outbox = outboxIn w h b′; events = n }) (record { numbers = waitingIn w₁; events = m }) l₁ l₂ e (asks w h b t may) r a)

@@ -23,6 +23,7 @@ use Rattle.parts.specs.Parts.{Parts, parts, at, outboxIn, waitingIn, openedOf}
 pub record Ready (p : Parts) (n : ℕ) (c : PreparedCommit) : Type 0 where
   pub sound : soundOf (openedOf p) ≡ true
   pub full : Full (openedOf p)
+  pub halves : 772 ≤ length (p .halves)
   pub list : 4096 ≤ n
   pub outbound : c .outbound ≤ 18446744073709551614
   pub remote : c .remote ≤ 18446744073709551614
@@ -44,8 +45,9 @@ pub record MayReleaseIn (w h b : List ℕ) (n : ℕ) : Type 0 where
   pub sound : soundOutbox (outboxIn w h b) ≡ true
   pub messages : at w 1 ≤ 256
   pub acks : ExactNumbers (waitingIn w)
-  pub bytes : 4936 ≤ length b
   pub words : 1296 ≤ length w
+  pub halves : 772 ≤ length h
+  pub bytes : 4936 ≤ length b
   pub room : 4096 ≤ n
 
 -- n events are listed
