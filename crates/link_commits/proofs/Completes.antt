@@ -1,6 +1,6 @@
 -- The two calls of a commit on the parts of a session, test by test. Assumes nothing.
 use Prim.Native.Nat.{ℕ, _+_, _-_, _≤_, _<_}
-use mathlib.Core.Path.{_≡_, refl, sym, ap, _∙_, subst}
+use mathlib.Core.Path.{_≡_, refl, ap, _∙_, subst}
 use mathlib.Core.Bool.{Bool, true, false}
 use mathlib.Core.List.{List}
 use native.Mathlib.Omega.{arith}
@@ -26,7 +26,7 @@ use Rattle.commits.specs.Releases.{Persists, ReleasesBy, notices}
 use Rattle.commits.proofs.Completes as C
 use Rattle.parts.specs.declared.LinkAnswer.{LinkAnswer}
 use Rattle.parts.specs.Codes.{answerOf}
-use Rattle.parts.specs.Parts.{Parts, parts, at, section, outboxIn, waitingIn, clockIn, openedOf}
+use Rattle.parts.specs.Parts.{Parts, parts, at, section, outboxIn, clockIn, openedOf}
 use Rattle.parts.specs.Driven.{Driven, DrivenAnswer}
 use Rattle.parts.proofs.Fields.{agree-set, outbox-same}
 use Rattle.parts.proofs.After.{agree-all}
