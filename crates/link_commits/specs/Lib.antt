@@ -1,0 +1,2 @@
+-- What the contracts of `link_commits` cite.
+pub mod Completes
