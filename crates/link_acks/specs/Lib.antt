@@ -1,0 +1,2 @@
+-- What the contracts of `link_acks` cite.
+pub mod Reports
