@@ -1,3 +1,4 @@
 -- The laws of link_codes.
-pub mod Codes
-pub mod Back
+pub mod Enums
+pub mod Seating
+pub mod Opening

@@ -1,2 +1,1 @@
 -- The definitions that the contracts of `link_codes` cite.
-pub mod Codes
