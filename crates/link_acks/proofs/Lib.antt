@@ -2,3 +2,4 @@
 pub mod Lengths
 pub mod Reports
 pub mod Keepalives
+pub mod Acks
