@@ -5,7 +5,7 @@ use mathlib.Core.Bool.{Bool, true, false}
 use mathlib.Core.List.{List, [], _∷_}
 use native.Mathlib.Omega.{arith}
 use lib.Ieee.{Float}
-use lib.ListN.{length, set, length-set}
+use lib.ListN.{length, set, replicate, length-set, length-replicate}
 use lib.Seq.{getD-set-same}
 use Rattle.stores.specs.Placed.{placed}
 use Rattle.rules.specs.declared.Answer.the-variants.{Done, Refused}
@@ -13,16 +13,20 @@ use Rattle.rules.specs.declared.Refusal.{Refusal}
 use Rattle.rules.specs.declared.Refusal.the-variants.{ShortBuffer, UnknownCode, BadRecord, RetriesFull}
 use Rattle.rules.specs.Lists.{itself, put, kept}
 use Rattle.rules.specs.Acks.{sent, differs-from}
-use Rattle.rules.specs.Calls.{reports}
+use Rattle.rules.specs.State.{State}
+use Rattle.rules.specs.Progress.{Outcome}
+use Rattle.rules.specs.Sound.{ascending}
+use Rattle.rules.specs.Calls.{reports, step}
 use Rattle.numbers.specs.Seats.{inUse, ExactNumbers, Holds}
 use Rattle.outbox.specs.Sound.{soundOutbox}
 use Rattle.outbox.specs.Steps.{Flagged}
-use Rattle.peer_session.specs.declared.TerminalHandoff.{TerminalHandoff}
+use Rattle.peer_session.specs.declared.SessionState.{SessionState}
 use Rattle.peer_session.specs.Sound.{soundOf, Full}
 use Rattle.peer_session.proofs.View as Views
+use Rattle.session.specs.declared.Returned.{Returned}
 use Rattle.session.specs.Promise.{CalledWithList}
 use Rattle.session.proofs.WithList.{list-short, list-wrong, list-unsound, list-answers}
-use Rattle.acks.specs.Reports.{ownFrame, fullOf, MayRetry}
+use Rattle.acks.specs.Reports.{Reports, ownFrame, fullOf, MayRetry}
 use Rattle.acks.proofs.Reports as A
 use Rattle.parts.specs.declared.LinkAnswer.{LinkAnswer}
 use Rattle.parts.specs.Codes.{answerOf}
@@ -32,7 +36,7 @@ use Rattle.parts.specs.Driven.{Driven}
 use Rattle.parts.proofs.Fields.{Agree, agree-past, agree-set, agree-then, agree-only, agree-above, outbox-same, numbers-same, handoff-same, section-same}
 use Rattle.parts.proofs.After.{Kept, other, after, agree-all}
 use Rattle.parts.proofs.Drives.{leaves, changes, refuses}
-use Rattle.link_acks.specs.Reports.{Ready, Turns}
+use Rattle.link_acks.specs.Reports.{Ready, Turns, Fit, Reported}
 use Rattle.link_acks.proofs.Lengths.{words-long, bytes-long}
 
 -- ---- data was accepted: one message is no longer unsent, and perhaps the handoff is sent
@@ -123,78 +127,103 @@ module _ (w h b : List ℕ) (t : Float) (lw : 1296 ≤ length w) (lb : 4936 ≤ 
 
 -- ---- past the tests
 
-module _ (w h b : List ℕ) (t : Float) (l : List ℕ) (what number : ℕ) (accepted : Bool) (ready : Ready (parts w h b t) (length l) what) where
-  abbrev Reported : List ℕ → List ℕ → LinkAnswer → List ℕ → Type 0
-  Reported w′ b′ y l′ = Driven (parts w h b t) (parts w′ h b′ t) y (λ s r. CalledWithList (reports what number accepted) s l r l′)
-
-  lw : 1296 ≤ length w
-  lw = words-long w h b t (ready .full)
-
-  lb : 4936 ≤ length b
-  lb = bytes-long w h b t (ready .full)
-
-  -- what its steps ask of the parts
-  pub messages-sound : soundOutbox (outboxIn w h b) ≡ true
-  unfolding openedOf
-  messages-sound = Views.parts (openedOf (parts w h b t)) (ready .sound) (ready .full) .outbox
-
-  pub retries-exact : ExactNumbers (retryIn w)
-  unfolding openedOf
-  retries-exact = Views.parts (openedOf (parts w h b t)) (ready .sound) (ready .full) .retry
-
-  pub may-retry : MayRetry number (retryIn w)
-  unfolding openedOf
-  may-retry = A.may-retry number (openedOf (parts w h b t)) (ready .sound) (ready .full)
-
-  module _ (of-data : what ≡ 0) where
-    -- data that was not accepted
-    pub unsent : accepted ≡ false → {y : LinkAnswer} → y ≡ answerOf Done 0 → Reported w b y l
-    unsent failed e =
-        leaves (parts w h b t) Done 0 e
-        (list-answers (reports what number accepted) (A.list-alone what number accepted) (openedOf (parts w h b t)) l (ready .list) (A.good-code what number accepted (ready .code))
-        (ready .sound) (ready .full) Done (λ o q lo. A.of-data what number accepted (ready .code) of-data false failed _))
-
-    module _ (did : accepted ≡ true) (b′ : List ℕ) (m : Flagged (sent number) (outboxIn w h b) (outboxIn w h b′)) (past : Past 512 b b′) {y : LinkAnswer} where
-      pub other-frame : ownFrame number (handoffIn w b) ≡ false → y ≡ answerOf Done 0 → Reported w b′ y l
-      unfolding openedOf
-      other-frame f e =
-          changes (parts w h b t) (ready .sound) (parts w h b′ t) _ (data-leaves w h b t lw lb b′ past) Done 0 e
-          (A.reported what number accepted (ready .code) (openedOf (parts w h b t)) l (ready .list) (ready .sound) (ready .full)
-          (A.of-data what number accepted (ready .code) of-data true did) (A.other-frame number (openedOf (parts w h b t)) l (outboxIn w h b′) m f))
-
-      pub its-own-frame : ownFrame number (handoffIn w b) ≡ true → {l′ : List ℕ} → l′ ≡ placed l (4 * 0) (1 ∷ 0 ∷ 0 ∷ 0 ∷ []) → y ≡ answerOf Done 1
-          → Reported w (set b′ 773 1) y l′
-      unfolding openedOf
-      its-own-frame f k e =
-          changes (parts w h b t) (ready .sound) (parts w h (set b′ 773 1) t) _ (told-leaves w h b t lw lb b′ past) Done 1 e
-          (A.reported what number accepted (ready .code) (openedOf (parts w h b t)) l (ready .list) (ready .sound) (ready .full)
-          (A.of-data what number accepted (ready .code) of-data true did) (A.its-own-frame number (openedOf (parts w h b t)) l (outboxIn w h b′) m f k))
-
-  module _ (ack : what ≡ 0 → ⊥) where
-    module _ (w′ : List ℕ) (only : Only 784 6 w w′) {y : LinkAnswer} (e : y ≡ answerOf Done 0) where
-      -- an ack was accepted
-      pub ack-sent : accepted ≡ true → Holds (kept (differs-from number) (inUse (retryIn w))) (retryIn w′) → Reported w′ b y l
-      unfolding openedOf
-      ack-sent did k =
-          changes (parts w h b t) (ready .sound) (parts w′ h b t) _ (retries-leave w h b t lw lb w′ only) Done 0 e
-          (A.reported what number accepted (ready .code) (openedOf (parts w h b t)) l (ready .list) (ready .sound) (ready .full)
-          (A.of-ack what number accepted (ready .code) ack true did) (A.sent-ack number (openedOf (parts w h b t)) (retryIn w′) l k))
-
-      -- or is kept for the next keepalive
-      pub ack-kept : accepted ≡ false → fullOf number (retryIn w) ≡ false → Holds (put itself number (inUse (retryIn w))) (retryIn w′) → Reported w′ b y l
-      unfolding openedOf
-      ack-kept failed f k =
-          changes (parts w h b t) (ready .sound) (parts w′ h b t) _ (retries-leave w h b t lw lb w′ only) Done 0 e
-          (A.reported what number accepted (ready .code) (openedOf (parts w h b t)) l (ready .list) (ready .sound) (ready .full)
-          (A.of-ack what number accepted (ready .code) ack false failed) (A.kept-ack number (openedOf (parts w h b t)) (retryIn w′) l f k))
-
-    -- or lost, where there is no room
-    pub ack-lost : accepted ≡ false → fullOf number (retryIn w) ≡ true → {y : LinkAnswer} → y ≡ answerOf (Refused RetriesFull) 0 → Reported w b y l
+module _ (w h b l : List ℕ) (number : ℕ) where
+  -- what the steps ask of the parts
+  module _ (what : ℕ) (t : Float) (ready : Ready (parts w h b t) (length l) what) where
+    pub messages-sound : soundOutbox (outboxIn w h b) ≡ true
     unfolding openedOf
-    ack-lost failed f e =
-        refuses (parts w h b t) RetriesFull e
-        (λ r u. A.reported what number accepted (ready .code) (openedOf (parts w h b t)) l (ready .list) (ready .sound) (ready .full)
-        (A.of-ack what number accepted (ready .code) ack false failed) (A.lost-ack number (openedOf (parts w h b t)) l f u))
+    messages-sound = Views.parts (openedOf (parts w h b t)) (ready .sound) (ready .full) .outbox
+
+    pub retries-exact : ExactNumbers (retryIn w)
+    unfolding openedOf
+    retries-exact = Views.parts (openedOf (parts w h b t)) (ready .sound) (ready .full) .retry
+
+    pub retries-rise : ascending (inUse (retryIn w)) ≡ true
+    unfolding openedOf
+    retries-rise =
+        let o : List ℕ = replicate 65536 0 in
+        let q : List ℕ = replicate 32768 0 in
+        let lo : length o ≡ 65536 = length-replicate {A = ℕ} 65536 0 in
+        let lq : length q ≡ 32768 = length-replicate {A = ℕ} 32768 0 in
+        Views.sound-good (openedOf (parts w h b t)) o q (ready .sound) (ready .full) (omega arith) (omega arith) .sound .1 .retries
+
+    pub may-retry : MayRetry number (retryIn w)
+    unfolding openedOf
+    may-retry = A.may-retry number (openedOf (parts w h b t)) (ready .sound) (ready .full)
+
+  pub fit-as : (what k : ℕ) → k ≤ 1 → Fit w h b (length l) what → Fit w h b (length l) k
+  fit-as what k j fit t = let r : Ready (parts w h b t) (length l) what = fit t in record { sound = r .sound; full = r .full; list = r .list; code = j }
+
+  -- by what is reported, and whether it was accepted
+  pub reported-as : {what k : ℕ} {accepted a : Bool} {w′ b′ l′ : List ℕ} {x : LinkAnswer} → what ≡ k → accepted ≡ a
+      → Reported k number a w h b l w′ b′ l′ x → Reported what number accepted w h b l w′ b′ l′ x
+  reported-as e f r = rw (e, f) r
+
+  module _ (what : ℕ) (accepted : Bool) (fit : Fit w h b (length l) what) where
+    module _ (t : Float) where
+      abbrev ready : Ready (parts w h b t) (length l) what
+      ready = fit t
+
+      abbrev s : SessionState
+      s = openedOf (parts w h b t)
+
+      lw : 1296 ≤ length w
+      lw = words-long w h b t (ready .full)
+
+      lb : 4936 ≤ length b
+      lb = bytes-long w h b t (ready .full)
+
+      -- a step that does what the rule says
+      does : {f : State → Outcome} {r : Returned} {l′ : List ℕ} → ((u : State) → step (reports what number accepted) u ≡ f u) → Reports f s l r l′
+          → CalledWithList (reports what number accepted) s l r l′
+      does e k = A.reported what number accepted (ready .code) s l (ready .list) (ready .sound) (ready .full) e k
+
+    module _ (of-data : what ≡ 0) where
+      -- data that was not accepted
+      pub unsent : accepted ≡ false → {y : LinkAnswer} → y ≡ answerOf Done 0 → Reported what number accepted w h b l w b l y
+      unsent failed e t =
+          leaves (parts w h b t) Done 0 e
+          (list-answers (reports what number accepted) (A.list-alone what number accepted) (s t) l (ready t .list) (A.good-code what number accepted (ready t .code))
+          (ready t .sound) (ready t .full) Done (λ o q lo. A.of-data what number accepted (ready t .code) of-data false failed _))
+
+      module _ (did : accepted ≡ true) (b′ : List ℕ) (m : Flagged (sent number) (outboxIn w h b) (outboxIn w h b′)) (past : Past 512 b b′) {y : LinkAnswer} where
+        pub other-frame : false ≡ ownFrame number (handoffIn w b) → y ≡ answerOf Done 0 → Reported what number accepted w h b l w b′ l y
+        unfolding openedOf
+        other-frame f e t =
+            changes (parts w h b t) (ready t .sound) (parts w h b′ t) _ (data-leaves w h b t (lw t) (lb t) b′ past) Done 0 e
+            (does t (A.of-data what number accepted (ready t .code) of-data true did) (A.other-frame number (s t) l (outboxIn w h b′) m (sym f)))
+
+        pub its-own-frame : true ≡ ownFrame number (handoffIn w b) → {l′ : List ℕ} → l′ ≡ placed l (4 * 0) (1 ∷ 0 ∷ 0 ∷ 0 ∷ []) → y ≡ answerOf Done 1
+            → Reported what number accepted w h b l w (set b′ 773 1) l′ y
+        unfolding openedOf
+        its-own-frame f k e t =
+            changes (parts w h b t) (ready t .sound) (parts w h (set b′ 773 1) t) _ (told-leaves w h b t (lw t) (lb t) b′ past) Done 1 e
+            (does t (A.of-data what number accepted (ready t .code) of-data true did) (A.its-own-frame number (s t) l (outboxIn w h b′) m (sym f) k))
+
+    module _ (ack : what ≡ 0 → ⊥) where
+      module _ (w′ : List ℕ) (only : Only 784 6 w w′) {y : LinkAnswer} (e : y ≡ answerOf Done 0) where
+        -- an ack was accepted
+        pub ack-sent : accepted ≡ true → Holds (kept (differs-from number) (inUse (retryIn w))) (retryIn w′) → Reported what number accepted w h b l w′ b l y
+        unfolding openedOf
+        ack-sent did k t =
+            changes (parts w h b t) (ready t .sound) (parts w′ h b t) _ (retries-leave w h b t (lw t) (lb t) w′ only) Done 0 e
+            (does t (A.of-ack what number accepted (ready t .code) ack true did) (A.sent-ack number (s t) (retryIn w′) l k))
+
+        -- or is kept for the next keepalive
+        pub ack-kept : accepted ≡ false → false ≡ fullOf number (retryIn w) → Holds (put itself number (inUse (retryIn w))) (retryIn w′)
+            → Reported what number accepted w h b l w′ b l y
+        unfolding openedOf
+        ack-kept failed f k t =
+            changes (parts w h b t) (ready t .sound) (parts w′ h b t) _ (retries-leave w h b t (lw t) (lb t) w′ only) Done 0 e
+            (does t (A.of-ack what number accepted (ready t .code) ack false failed) (A.kept-ack number (s t) (retryIn w′) l (sym f) k))
+
+      -- or lost, where there is no room
+      pub ack-lost : accepted ≡ false → true ≡ fullOf number (retryIn w) → {y : LinkAnswer} → y ≡ answerOf (Refused RetriesFull) 0
+          → Reported what number accepted w h b l w b l y
+      unfolding openedOf
+      ack-lost failed f e t =
+          refuses (parts w h b t) RetriesFull e
+          (λ r u. does t (A.of-ack what number accepted (ready t .code) ack false failed) (A.lost-ack number (s t) l (sym f) u))
 
 -- ---- the tests
 

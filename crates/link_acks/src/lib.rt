@@ -1,1 +1,1 @@
-// Reports, acks and keepalives on the parts of a session.
+// Reports
