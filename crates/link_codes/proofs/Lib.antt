@@ -2,3 +2,5 @@
 pub mod Enums
 pub mod Seating
 pub mod Opening
+pub mod Filling
+pub mod Storing

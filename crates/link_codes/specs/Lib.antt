@@ -1,1 +1,2 @@
 -- The definitions that the contracts of `link_codes` cite.
+pub mod Stored
