@@ -1,2 +1,3 @@
 -- The definitions that the contracts of `link_outbox` cite.
 pub mod Tests
+pub mod Steps

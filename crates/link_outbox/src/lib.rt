@@ -1,6 +1,7 @@
 // The unacked messages of a session that C lends, worked on where they lie. Numbers and pending flags start at index 0 of their parts.
 ghost use mathlib.Core.Path.{_≡_};
-ghost use mathlib.Core.Bool.{Bool, true, false};
+ghost use mathlib.Core.Bool.{Bool, true, false, not, _&&_};
+ghost use lib.Dec.{leb};
 ghost use mathlib.Core.List.{List, _∷_, []};
 ghost use Prim.Native.Nat.{ℕ, _+_, _*_, _≤_, _<_};
 ghost use lib.ListN.{length, take, drop, set};
@@ -9,7 +10,11 @@ ghost use Rattle.rules.specs.Lists.{total};
 ghost use Rattle.outbox.specs.View.{lenU};
 ghost use Rattle.outbox.specs.Sound.{soundOutbox};
 ghost use Rattle.parts.specs.Seats.{seats};
-ghost use Rattle.parts.specs.Parts.{at, outboxIn, unackedAt};
+ghost use Rattle.parts.specs.Parts.{at, flag, outboxIn, unackedAt};
+ghost use Rattle.outbox.specs.View.{usedU, ExactOutbox};
+ghost use Rattle.outbox.specs.Records.{placeU};
+ghost use Rattle.outbox.specs.Steps.{Room, Replays};
+ghost use Rattle.link_outbox.specs.Steps.{Joins, Marks, Frees, Drops, freed, Sends};
 ghost use Rattle.link_outbox.specs.Tests.{fall, falls, cap, capU, Bounded, Sought};
 use parts::{Bytes, Halves, Words};
 
@@ -18,6 +23,33 @@ fn wide(x: u32) -> u64
     ensures { λ r. ⌜ r ≡ x ⌝ }
 {
     x as u64
+}
+
+// A half as a size.
+fn size(x: u32) -> usize
+    ensures { λ r. ⌜ r ≡ x ⌝ }
+{
+    x as usize
+}
+
+// ---- an array that is lent has its length, as a slice of it tells a proof
+
+fn full_words(words: &Words)
+    ensures { λ _. ⌜ length (now (words .entry)) ≡ 1296 ⌝ }
+{
+    let s: &[u64] = words;
+}
+
+fn full_halves(halves: &Halves)
+    ensures { λ _. ⌜ length (now (halves .entry)) ≡ 772 ⌝ }
+{
+    let s: &[u32] = halves;
+}
+
+fn full_bytes(bytes: &Bytes)
+    ensures { λ _. ⌜ length (now (bytes .entry)) ≡ 4936 ⌝ }
+{
+    let s: &[u8] = bytes;
 }
 
 // ---- whether they are such as calls leave
@@ -114,4 +146,172 @@ pub fn used(halves: &Halves, count: usize) -> usize
         i += 1;
     }
     sum as usize
+}
+
+// ---- a message joins
+
+// A message with the next number, at the end: its body from index at on, where the bodies end.
+pub fn append(words: &mut Words, halves: &mut Halves, bytes: &mut Bytes, store: &mut [u8], at: usize, body: &[u8])
+    requires { ⌜ Room (outboxIn (now words) (now halves) (now bytes)) (length (now store)) at (length (now body)) ⌝ }
+    ensures { λ _. ⌜ Joins (now (words .entry)) (now (halves .entry)) (now (bytes .entry)) (now (store .entry)) (now (body .entry)) (now (words .exit)) (now (halves .exit)) (now (bytes .exit)) (now (store .exit)) ⌝ }
+{
+    full_words(words);
+    full_halves(halves);
+    full_bytes(bytes);
+    stores::copy_in(store, at, body);
+    let next = words[parts::NEXT];
+    let n = words[parts::UNACKED];
+    let i = n as usize;
+    halves[i] = next as u32;
+    halves[parts::UNACKED_LENS + i] = body.len() as u32;
+    bytes[i] = 1;
+    bytes[parts::UNSENT + i] = 0;
+    words[parts::NEXT] = next + 1;
+    words[parts::UNACKED] = n + 1;
+}
+
+// ---- a report
+
+fn search(halves: &Halves, count: usize, number: u64) -> usize
+    requires { ⌜ count ≤ 256 ⌝ }
+    ensures { λ r. ⌜ Sought (now (halves .entry)) count number r ⌝ }
+{
+    let mut i = 0;
+    while i < count {
+        if wide(halves[i]) == number {
+            return i;
+        }
+        i += 1;
+    }
+    i
+}
+
+// Where a number is, if all from the first on are there.
+fn guess(first: u64, number: u64, count: usize) -> usize
+    requires { ⌜ 0 < count ⌝ }
+    ensures { λ r. ⌜ r < count ⌝ }
+{
+    if number < first {
+        return 0;
+    }
+    if count as u64 <= number - first {
+        return 0;
+    }
+    (number - first) as usize
+}
+
+// The index of a number among the first count, or count where it is not among them.
+fn seat(halves: &Halves, count: usize, number: u64) -> usize
+    requires { ⌜ count ≤ 256 ⌝ }
+    ensures { λ r. ⌜ Sought (now (halves .entry)) count number r ⌝ }
+{
+    if count == 0 {
+        return 0;
+    }
+    let i = guess(wide(halves[0]), number, count);
+    if wide(halves[i]) == number {
+        return i;
+    }
+    search(halves, count, number)
+}
+
+// The Rust's `sent`: a send of the number was accepted.
+pub fn mark_sent(words: &Words, halves: &Halves, bytes: &mut Bytes, number: u64)
+    requires { ⌜ soundOutbox (outboxIn (now words) (now halves) (now bytes)) ≡ true ⌝ }
+    ensures { λ _. ⌜ Marks number (now (words .entry)) (now (halves .entry)) (now (bytes .entry)) (now (bytes .exit)) ⌝ }
+{
+    let count = words[parts::UNACKED] as usize;
+    let i = seat(halves, count, number);
+    full_bytes(bytes);
+    if i < count {
+        bytes[parts::UNSENT + i] = 0;
+        return;
+    }
+}
+
+// ---- sends are listed
+
+// Lists a send, code 8, as event number n, where it is to go; the body starts at index from. Returns the next event's number.
+fn send_if(goes: bool, number: u32, len: u32, list: &mut [u64], n: usize, from: usize) -> usize
+    requires { ⌜ 4 * n + 4 ≤ length (now list) ⌝ }
+    ensures { λ r. ⌜ Sends goes number len from (now (list .entry)) n (now (list .exit)) r ⌝ }
+{
+    if goes {
+        events::emit(list, n, 8, number as u64, from as u64, len as u64);
+        return n + 1;
+    }
+    n
+}
+
+// The record at index i is sent, and unsent until a send is reported.
+fn free_if(goes: bool, bytes: &mut Bytes, i: usize)
+    requires { ⌜ i < 256 ⌝ }
+    ensures { λ _. ⌜ now (bytes .exit) ≡ freed goes i (now (bytes .entry)) ⌝ }
+{
+    if goes {
+        bytes[i] = 0;
+        bytes[parts::UNSENT + i] = 1;
+        return;
+    }
+}
+
+// Whether a commit that captured the numbers up to upto releases a record.
+fn releases(number: u32, pending: u8, upto: u64) -> bool
+    ensures { λ r. ⌜ r ≡ (flag pending && leb number upto) ⌝ }
+{
+    if pending == 0 {
+        return false;
+    }
+    number as u64 <= upto
+}
+
+// The Rust's `complete_commit` on the messages: those pending up to upto are sent, and unsent until a send is reported.
+pub fn release(words: &Words, halves: &Halves, bytes: &mut Bytes, upto: u64, list: &mut [u64], n: usize) -> usize
+    requires { ⌜ (soundOutbox (outboxIn (now words) (now halves) (now bytes)) ≡ true) × (4 * (n + at (now words) 1) ≤ length (now list)) ⌝ }
+    ensures { λ r. ⌜ Frees upto (now (words .entry)) (now (halves .entry)) (now (bytes .entry)) (now (list .entry)) n (now (bytes .exit)) (now (list .exit)) r ⌝ }
+{
+    full_bytes(bytes);
+    let count = words[parts::UNACKED] as usize;
+    let mut k = n;
+    let mut from = 0;
+    let mut i = 0;
+    while i < count {
+        let len = halves[parts::UNACKED_LENS + i];
+        let goes = releases(halves[i], bytes[i], upto);
+        let m = send_if(goes, halves[i], len, list, k, from);
+        free_if(goes, bytes, i);
+        k = m;
+        from += size(len);
+        i += 1;
+    }
+    k
+}
+
+fn is_clear(x: u8) -> bool
+    ensures { λ r. ⌜ r ≡ not (flag x) ⌝ }
+{
+    if x == 0 {
+        return true;
+    }
+    false
+}
+
+// The Rust's `connectivity` on the messages: those not pending are sent anew.
+pub fn replay(words: &Words, halves: &Halves, bytes: &Bytes, list: &mut [u64], n: usize) -> usize
+    requires { ⌜ (soundOutbox (outboxIn (now words) (now halves) (now bytes)) ≡ true) × (4 * (n + at (now words) 1) ≤ length (now list)) ⌝ }
+    ensures { λ r. ⌜ Replays (outboxIn (now (words .entry)) (now (halves .entry)) (now (bytes .entry))) (now (list .entry)) n (now (list .exit)) r ⌝ }
+{
+    let count = words[parts::UNACKED] as usize;
+    let mut k = n;
+    let mut from = 0;
+    let mut i = 0;
+    while i < count {
+        let len = halves[parts::UNACKED_LENS + i];
+        let goes = is_clear(bytes[i]);
+        let m = send_if(goes, halves[i], len, list, k, from);
+        k = m;
+        from += size(len);
+        i += 1;
+    }
+    k
 }

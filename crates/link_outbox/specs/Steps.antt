@@ -1,0 +1,46 @@
+-- The contracts of the functions that change the unacked messages where they lie: w, h, b are the words, halves and bytes before, and w′, h′, b′ after.
+-- Assumes nothing.
+use Prim.Native.Nat.{ℕ, _+_, _*_, _≤_, _<_}
+use mathlib.Core.Path.{_≡_}
+use mathlib.Core.Bool.{Bool, true, false}
+use mathlib.Core.List.{List, _∷_}
+use lib.ListN.{length, set}
+use Rattle.rules.specs.Lists.{Bytes, if_then_else_, kept}
+use Rattle.rules.specs.Acks.{survives, sent}
+use Rattle.outbox.specs.declared.Unacked.{Unacked}
+use Rattle.outbox.specs.View.{unackedOf}
+use Rattle.outbox.specs.Steps.{Appended, Left, Flagged, Releases, SentIf}
+use Rattle.parts.specs.Parts.{at, outboxIn}
+use Rattle.parts.specs.Frames.{Past}
+
+-- a message joins: o, o′ are the store
+pub record Joins (w h b : List ℕ) (o body : Bytes) (w′ h′ b′ : List ℕ) (o′ : Bytes) : Type 0 where
+  pub appended : Appended (outboxIn w h b) o body (outboxIn w′ h′ b′) o′
+  pub words : w′ ≡ set (set w 0 (at w 0 + 1)) 1 (at w 1 + 1)
+  pub halves : Past 512 h h′
+  pub bytes : Past 512 b b′
+
+-- a send of a number was accepted
+pub record Marks (number : ℕ) (w h b b′ : List ℕ) : Type 0 where
+  pub flagged : Flagged (sent number) (outboxIn w h b) (outboxIn w h b′)
+  pub bytes : Past 512 b b′
+
+-- a commit releases the numbers up to upto: l, l′ are the event list, of which n events are there before and n′ after
+pub record Frees (upto : ℕ) (w h b l : List ℕ) (n : ℕ) (b′ l′ : List ℕ) (n′ : ℕ) : Type 0 where
+  pub released : Releases upto (outboxIn w h b) l n (record { outbox = outboxIn w h b′; events = n′ }) l′
+  pub bytes : Past 512 b b′
+
+-- an ack of the numbers up to ack
+pub record Drops (ack : ℕ) (w h b : List ℕ) (o : Bytes) (w′ h′ b′ : List ℕ) (o′ : Bytes) : Type 0 where
+  pub left : Left (outboxIn w h b) o (kept (survives ack) (unackedOf (outboxIn w h b) o)) (outboxIn w′ h′ b′) o′
+  pub words : w′ ≡ set w 1 (length (kept (survives ack) (unackedOf (outboxIn w h b) o)))
+  pub halves : Past 512 h h′
+  pub bytes : Past 512 b b′
+
+-- flags of the record at index i as a release leaves them, where it goes
+abbrev pub freed : Bool → ℕ → List ℕ → List ℕ
+freed goes i b = if goes then set (set b i 0) (256 + i) 1 else b
+
+-- a record's send is listed where it is to go; flags do not matter
+abbrev pub Sends : Bool → ℕ → ℕ → ℕ → List ℕ → ℕ → List ℕ → ℕ → Type 0
+Sends goes number len at l n l′ n′ = (p q : Bool) → SentIf goes (record { number = number; len = len; pending = p; unsent = q }) at l n l′ n′
