@@ -10,9 +10,9 @@ use lib.Dec.{leb, ltb, eqb}
 use borrow.Author.Tests.{le-leb, lt-ltb, le-ltb, ltb-true, leb-true}
 use Rattle.stores.specs.Fronts.{front}
 use Rattle.stores.proofs.Scans.{any-here, any-later, rises-on, rises-not}
-use Rattle.rules.specs.Lists.{if_then_else_, any, all, has, rising, itself}
+use Rattle.rules.specs.Lists.{if_then_else_, any, all, has, rising, itself, put, kept}
 use Rattle.rules.specs.Sound.{at-most, ascending}
-use Rattle.rules.proofs.Lists.{if-rule, and-left, and-right}
+use Rattle.rules.proofs.Lists.{if-rule, and-left, and-right, and-both, rising-put, rising-kept}
 use Rattle.numbers.specs.Seats.{under, seatOf}
 use Rattle.numbers.proofs.Laws.{ascending-none, ascending-some}
 use Rattle.parts.specs.Parts.{at, section}
@@ -61,7 +61,7 @@ ascends-none from n w e = ascending-none (record { values = section from 512 w; 
 
 -- ---- a list that ascends
 
-tail-ascends : (x : ℕ) (ns : List ℕ) → rising itself x ns ≡ true → ascending ns ≡ true
+pub tail-ascends : (x : ℕ) (ns : List ℕ) → rising itself x ns ≡ true → ascending ns ≡ true
 unfolding rising
 tail-ascends x [] e = refl
 tail-ascends x (y ∷ ys) e = and-right (ltb x y) _ e
@@ -74,6 +74,22 @@ head-below x (y ∷ ys) (suc k) e h =
     let l : x < y = ltb-true x y (and-left (ltb x y) _ e) in
     let r : y < getD ys k 0 = head-below y ys k (and-right (ltb x y) _ e) (omega arith) in
     omega arith
+
+-- and still ascends with a number put, and without some
+
+pub put-ascends : (n : ℕ) (ns : List ℕ) → ascending ns ≡ true → ascending (put itself n ns) ≡ true
+unfolding put rising
+put-ascends n [] e = refl
+put-ascends n (x ∷ xs) e =
+    if-rule (λ (l : List ℕ). ascending l ≡ true) (ltb n x) _ _ (λ h. and-both (ltb n x) _ h e)
+    (λ h. if-rule (λ (l : List ℕ). ascending l ≡ true) (ltb x n) _ _ (λ k. rising-put itself n x xs (ltb-true x n k) e) (λ k. e))
+
+pub kept-ascends : (p : ℕ → Bool) (ns : List ℕ) → ascending ns ≡ true → ascending (kept p ns) ≡ true
+unfolding kept
+kept-ascends p [] e = refl
+kept-ascends p (x ∷ xs) e =
+    let r : rising itself x (kept p xs) ≡ true = rising-kept itself p x xs e in
+    if-rule (λ (l : List ℕ). ascending l ≡ true) (p x) _ _ (λ h. r) (λ h. tail-ascends x (kept p xs) r)
 
 -- its last number is its largest
 pub last-decides : (limit : ℕ) (ns : List ℕ) (k : ℕ) → ascending ns ≡ true → length ns ≡ suc k → leb (getD ns k 0) limit ≡ all (at-most limit) ns

@@ -1,7 +1,7 @@
 -- Sets of numbers that change in place: what a loop keeps, and what is there at its end. Assumes nothing.
 use Prim.Native.Nat.{ℕ, _+_, _-_, _*_, _≤_, _<_}
 use mathlib.Core.Path.{_≡_, refl, sym, ap, _∙_, subst}
-use mathlib.Core.Bool.{Bool}
+use mathlib.Core.Bool.{Bool, true}
 use mathlib.Core.List.{List, [], _∷_, _++_, map}
 use native.Mathlib.Omega.{arith}
 use lib.ListN.{length, take, drop, getD, set}
@@ -14,6 +14,7 @@ use Rattle.stores.proofs.Sifts.{Sifted, sifted-none, sifted-more}
 use Rattle.rules.specs.Lists.{if_then_else_, kept, put, itself}
 use Rattle.rules.specs.Commits.{releases-ack}
 use Rattle.rules.specs.Events.{send-ack}
+use Rattle.rules.specs.Sound.{ascending}
 use Rattle.numbers.specs.declared.Numbers.{Numbers}
 use Rattle.numbers.specs.Seats.{inUse, ExactNumbers, Holds, seatOf, step}
 use Rattle.numbers.proofs.Laws.{put-at-is, put-old, put-room, put-new, seat-within}
@@ -213,3 +214,11 @@ module _ {from count : ℕ} {w : List ℕ} (r : Rising from count w) where
       pub put-comes : {w′ : List ℕ} → Becomes (take k (inUse (numbersIn from count w)) ++ (n ∷ drop k (inUse (numbersIn from count w)))) from count w w′
           → Becomes (put itself n (inUse (numbersIn from count w))) from count w w′
       put-comes {w′} b = record { holds = put-new v n k (x .few) (x .full) e new (numbersIn from count w′) (b .holds); only = b .only }
+
+-- a set that becomes numbers that rise
+pub becomes-rising : {ns : List ℕ} {from count : ℕ} {w w′ : List ℕ} → Set from count w → Becomes ns from count w w′ → ascending ns ≡ true → Rising from count w′
+becomes-rising s b e =
+    record {
+      set = record { within = s .within; outside = s .outside; exact = b .holds .exact };
+      rises = ap ascending (b .holds .held) ∙ e;
+    }
