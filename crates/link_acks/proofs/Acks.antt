@@ -24,7 +24,6 @@ use Rattle.peer_session.specs.declared.Stage.{Stage}
 use Rattle.peer_session.specs.declared.TerminalHandoff.{TerminalHandoff}
 use Rattle.peer_session.specs.View.{stateOf}
 use Rattle.peer_session.specs.Sound.{soundOf, Full}
-use Rattle.peer_session.proofs.View as Views
 use Rattle.session.specs.Promise.{CalledWithStores}
 use Rattle.session.proofs.Queries.{complete-no}
 use Rattle.acks.specs.Steps.{clockAfter, notices}
@@ -39,8 +38,9 @@ use Rattle.parts.specs.Driven.{Driven}
 use Rattle.parts.proofs.Fields.{Agree, agree-past, agree-set, agree-then, outbox-same, numbers-same, section-same}
 use Rattle.parts.proofs.After.{Kept, other, after, agree-all}
 use Rattle.parts.proofs.Drives.{changes}
+use Rattle.link_sound.proofs.Parts.{Usable, usable}
 use Rattle.link_acks.specs.Acks.{InPlace, raisedIf}
-use Rattle.link_acks.proofs.Lengths.{words-long, bytes-long}
+use Rattle.link_acks.proofs.Lengths.{bytes-long}
 
 -- ---- what the codes say, good ones or not
 
@@ -138,10 +138,12 @@ clock-raised true c = refl
 clock-raised false c = refl
 
 module _ (w h b : List ℕ) (t : Float) (l : List ℕ) (o : Bytes) (number : ℕ) (ready : InPlace (parts w h b t) (length l) (length o) number) where
+  used : Usable w h b
+  used = usable w h b t (record { is = sym (ready .sound); full = ready .full })
+
   -- what the sweep asks of the messages
   pub messages-exact : ExactOutbox (outboxIn w h b) (length o)
-  unfolding openedOf
-  messages-exact = Views.parts (openedOf (parts w h b t)) (ready .sound) (ready .full) .unacked o (ready .outbound)
+  messages-exact = used .unacked o (ready .outbound)
 
   module _ (w′ h′ b′ : List ℕ) (o′ : Bytes) (left : Left (outboxIn w h b) o (kept (survives number) (unackedOf (outboxIn w h b) o)) (outboxIn w′ h′ b′) o′)
       (k : ℕ) (words : w′ ≡ set w 1 k) (halves : Past 512 h h′) (bytes : Past 512 b b′) (g f : ℕ) (raised : g ≡ raisedIf (eqb (at w′ 1) (at w 1)) (at h 768))
@@ -152,13 +154,13 @@ module _ (w h b : List ℕ) (t : Float) (l : List ℕ) (o : Bytes) (number : ℕ
     unfolding openedOf
     went {l₁} {l₂} {n₁} {n} li lj e q lq =
         changes (parts w h b t) (ready .sound) (parts w′ (set h′ 768 g) (set b′ 774 f) t) _
-        (ack-leaves w h b t (ready .halves) (words-long w h b t (ready .full)) (bytes-long w h b t (ready .full)) w′ h′ b′ k words halves bytes g f)
+        (ack-leaves w h b t (ready .halves) (used .words) (bytes-long w h b t (ready .full)) w′ h′ b′ k words halves bytes g f)
         (Flag true) n e
         (λ d. A.goes number (openedOf (parts w h b t)) l o q d (ready .list) (ready .outbound) lq (ready .sound) (ready .full) (ready .low)
         (A.in-range number (at w 0) (ready .one) (omega (arith, ready .next)))
         (acked-is number (openedOf (parts w h b t)) l o _ o′
         (acknowledges number (openedOf (parts w h b t)) o (outboxIn w′ h′ b′) o′ _ (flag f) messages-exact left
         (ap (λ (i : ℕ). record { «last_replay_at» = t; generation = i; released = at h 769; persisted = at h 770 }) raised ∙ clock-raised (eqb (at w′ 1) (at w 1)) (clockIn h t)) flagged)
-        (subst (λ (c : Clock). Listed (asked c) l 0 l₁ n₁) (clock-dated w h b t (ready .halves) (words-long w h b t (ready .full)) (bytes-long w h b t (ready .full)) w′ h′ b′ k words halves bytes g f) li)
+        (subst (λ (c : Clock). Listed (asked c) l 0 l₁ n₁) (clock-dated w h b t (ready .halves) (used .words) (bytes-long w h b t (ready .full)) w′ h′ b′ k words halves bytes g f) li)
         (λ x y. complete-no (stageOf (codesIn h b) .disposition) _ (other-disposition (codesIn h b) (ready .disposition)))
         (raw-code (codesIn h b) (ready .raw)) lj))

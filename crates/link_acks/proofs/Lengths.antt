@@ -1,4 +1,4 @@
--- How long the parts are whose session is full. Assumes nothing.
+-- How many bytes there are where the session is full. Assumes nothing.
 use Prim.Native.Nat.{ℕ, _+_, _-_, _≤_}
 use mathlib.Core.Path.{_≡_, sym, _∙_}
 use mathlib.Core.List.{List}
@@ -12,10 +12,6 @@ section-long : (from n : ℕ) (l : List ℕ) → 1 ≤ n → length (section fro
 section-long from n l one h = omega (arith, simp (length-take, length-drop) at h)
 
 module _ (w h b : List ℕ) (t : Float) (full : Full (openedOf (parts w h b t))) where
-  pub words-long : 1296 ≤ length w
-  unfolding openedOf
-  words-long = omega (arith, section-long 784 512 w (omega arith) (full .retry))
-
   pub bytes-long : 4936 ≤ length b
   unfolding openedOf
   bytes-long = omega (arith, section-long 4872 64 b (omega arith) (full .reject))

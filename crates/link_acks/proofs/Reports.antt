@@ -1,11 +1,11 @@
 -- A report of a send on the parts of a session, by what it leaves of them. Assumes nothing.
-use Prim.Native.Nat.{ℕ, _+_, _*_, _≤_, _<_}
-use mathlib.Core.Path.{_≡_, refl, sym, ap, _∙_}
+use Prim.Native.Nat.{ℕ, zero, suc, _+_, _*_, _≤_, _<_}
+use mathlib.Core.Path.{_≡_, refl, sym, ap, _∙_, subst}
 use mathlib.Core.Bool.{Bool, true, false}
 use mathlib.Core.List.{List, [], _∷_}
 use native.Mathlib.Omega.{arith}
-use lib.Ieee.{Float}
-use lib.ListN.{length, set, replicate, length-set, length-replicate}
+use lib.Ieee.{Float, nan}
+use lib.ListN.{length, set, length-set}
 use lib.Seq.{getD-set-same}
 use Rattle.stores.specs.Placed.{placed}
 use Rattle.rules.specs.declared.Answer.the-variants.{Done, Refused}
@@ -15,14 +15,14 @@ use Rattle.rules.specs.Lists.{itself, put, kept}
 use Rattle.rules.specs.Acks.{sent, differs-from}
 use Rattle.rules.specs.State.{State}
 use Rattle.rules.specs.Progress.{Outcome}
-use Rattle.rules.specs.Sound.{ascending}
 use Rattle.rules.specs.Calls.{reports, step}
-use Rattle.numbers.specs.Seats.{inUse, ExactNumbers, Holds}
+use Rattle.events.specs.declared.Stop.{Stop}
+use Rattle.events.specs.declared.Stop.the-variants.{No, By}
+use Rattle.numbers.specs.Seats.{inUse, Holds}
 use Rattle.outbox.specs.Sound.{soundOutbox}
 use Rattle.outbox.specs.Steps.{Flagged}
 use Rattle.peer_session.specs.declared.SessionState.{SessionState}
 use Rattle.peer_session.specs.Sound.{soundOf, Full}
-use Rattle.peer_session.proofs.View as Views
 use Rattle.session.specs.declared.Returned.{Returned}
 use Rattle.session.specs.Promise.{CalledWithList}
 use Rattle.session.proofs.WithList.{list-short, list-wrong, list-unsound, list-answers}
@@ -36,8 +36,10 @@ use Rattle.parts.specs.Driven.{Driven}
 use Rattle.parts.proofs.Fields.{Agree, agree-past, agree-set, agree-then, agree-only, agree-above, outbox-same, numbers-same, handoff-same, section-same}
 use Rattle.parts.proofs.After.{Kept, other, after, agree-all}
 use Rattle.parts.proofs.Drives.{leaves, changes, refuses}
-use Rattle.link_acks.specs.Reports.{Ready, Turns, Fit, Reported}
-use Rattle.link_acks.proofs.Lengths.{words-long, bytes-long}
+use Rattle.link_numbers.specs.Sets.{Rising}
+use Rattle.link_sound.proofs.Parts.{Usable, usable}
+use Rattle.link_acks.specs.Reports.{Ready, Turns, Found, Enters, Fit, Reported}
+use Rattle.link_acks.proofs.Lengths.{bytes-long}
 
 -- ---- data was accepted: one message is no longer unsent, and perhaps the handoff is sent
 
@@ -128,28 +130,31 @@ module _ (w h b : List ℕ) (t : Float) (lw : 1296 ≤ length w) (lb : 4936 ≤ 
 -- ---- past the tests
 
 module _ (w h b l : List ℕ) (number : ℕ) where
-  -- what the steps ask of the parts
-  module _ (what : ℕ) (t : Float) (ready : Ready (parts w h b t) (length l) what) where
+  -- what the steps ask of the parts, whatever the time
+  module _ (what : ℕ) (fit : Fit w h b (length l) what) where
+    pub list-long : 4096 ≤ length l
+    list-long = fit nan .list
+
+    used : Usable w h b
+    used = usable w h b nan (record { is = sym (fit nan .sound); full = fit nan .full })
+
     pub messages-sound : soundOutbox (outboxIn w h b) ≡ true
-    unfolding openedOf
-    messages-sound = Views.parts (openedOf (parts w h b t)) (ready .sound) (ready .full) .outbox
+    messages-sound = used .outbox
 
-    pub retries-exact : ExactNumbers (retryIn w)
-    unfolding openedOf
-    retries-exact = Views.parts (openedOf (parts w h b t)) (ready .sound) (ready .full) .retry
-
-    pub retries-rise : ascending (inUse (retryIn w)) ≡ true
-    unfolding openedOf
-    retries-rise =
-        let o : List ℕ = replicate 65536 0 in
-        let q : List ℕ = replicate 32768 0 in
-        let lo : length o ≡ 65536 = length-replicate {A = ℕ} 65536 0 in
-        let lq : length q ≡ 32768 = length-replicate {A = ℕ} 32768 0 in
-        Views.sound-good (openedOf (parts w h b t)) o q (ready .sound) (ready .full) (omega arith) (omega arith) .sound .1 .retries
+    pub retries : Rising 784 6 w
+    retries = used .retry
 
     pub may-retry : MayRetry number (retryIn w)
     unfolding openedOf
-    may-retry = A.may-retry number (openedOf (parts w h b t)) (ready .sound) (ready .full)
+    may-retry = A.may-retry number (openedOf (parts w h b nan)) (fit nan .sound) (fit nan .full)
+
+    pub of-ack : (what ≡ 0 → ⊥) → what ≡ 1
+    of-ack n = one what (fit nan .code) n
+      where
+        one : (k : ℕ) → k ≤ 1 → (k ≡ 0 → ⊥) → k ≡ 1
+        one zero j n = absurd (n refl)
+        one (suc zero) j n = refl
+        one (suc (suc k)) j n = absurd (omega arith)
 
   pub fit-as : (what k : ℕ) → k ≤ 1 → Fit w h b (length l) what → Fit w h b (length l) k
   fit-as what k j fit t = let r : Ready (parts w h b t) (length l) what = fit t in record { sound = r .sound; full = r .full; list = r .list; code = j }
@@ -168,7 +173,7 @@ module _ (w h b l : List ℕ) (number : ℕ) where
       s = openedOf (parts w h b t)
 
       lw : 1296 ≤ length w
-      lw = words-long w h b t (ready .full)
+      lw = usable w h b t (record { is = sym (ready .sound); full = ready .full }) .words
 
       lb : 4936 ≤ length b
       lb = bytes-long w h b t (ready .full)
@@ -246,6 +251,11 @@ module _ (p : Parts) {n what : ℕ} where
       }
 
 -- a refusal by them
-pub turned : (p : Parts) (l : List ℕ) (what number : ℕ) (accepted : Bool) (x : Refusal) → Turns p (length l) what x → {y : LinkAnswer} → y ≡ answerOf (Refused x) 0
-    → Driven p p y (λ s r. CalledWithList (reports what number accepted) s l r l)
-turned p l what number accepted x k e = refuses p x e (λ r u. k .call l refl number accepted r u)
+pub turned : (p : Parts) (l : List ℕ) (what number : ℕ) (accepted : Bool) {r : Stop} {x : Refusal} → Found p (length l) what r → r ≡ By x
+    → {y : LinkAnswer} → y ≡ answerOf (Refused x) 0 → Driven p p y (λ s r. CalledWithList (reports what number accepted) s l r l)
+turned p l what number accepted {r} {x} k e f =
+    refuses p x f (λ v u. subst (λ (z : Stop). Found p (length l) what z) e k .call l refl number accepted v u)
+
+-- none
+pub fits : (w h b : List ℕ) (n what : ℕ) {r : Stop} → Enters w h b n what r → r ≡ No → Fit w h b n what
+fits w h b n what k e = subst (λ (z : Stop). Enters w h b n what z) e k
