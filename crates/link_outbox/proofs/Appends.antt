@@ -13,9 +13,9 @@ use Rattle.outbox.specs.declared.Outbox.{Outbox}
 use Rattle.outbox.specs.Steps.{Room, Appended}
 use Rattle.outbox.proofs.Appends as Plain
 use Rattle.parts.specs.Seats.{seats}
-use Rattle.parts.specs.Parts.{at, unackedAt, outboxIn, flag}
+use Rattle.parts.specs.Parts.{at, unackedAt, outboxIn}
 use Rattle.link_outbox.specs.Steps.{Joins}
-use Rattle.link_outbox.proofs.Records.{twice-low, twice-high, twice-other, twice-past, unacked-same, seats-set}
+use Rattle.link_outbox.proofs.Records.{twice-past, written}
 
 module _ (w h b : List ℕ) (o body o′ : Bytes) (p : ℕ) (lw : length w ≡ 1296) (lh : length h ≡ 772) (lb : length b ≡ 4936)
     (room : Room (outboxIn w h b) (length o) p (length body)) (e : o′ ≡ placed o p body) where
@@ -37,24 +37,6 @@ module _ (w h b : List ℕ) (o body o′ : Bytes) (p : ℕ) (lw : length w ≡ 1
   few : n < 256
   few = room .few
 
-  here : unackedAt h′ b′ n ≡ one
-  here =
-      let k : n < 256 = few in
-      let p1 : at h′ n ≡ at w 0 = twice-low h n (at w 0) (length body) few (omega arith) in
-      let p2 : at h′ (256 + n) ≡ length body = twice-high h n (at w 0) (length body) few (omega arith) in
-      let p3 : at b′ n ≡ 1 = twice-low b n 1 0 few (omega arith) in
-      let p4 : at b′ (256 + n) ≡ 0 = twice-high b n 1 0 few (omega arith) in
-      rw (p1, p2, p3, p4)
-
-  others : (j : ℕ) → j < 256 → (j ≡ n → ⊥) → unackedAt h′ b′ j ≡ unackedAt h b j
-  others j r not =
-      let k : n < 256 = few in
-      unacked-same h b h′ b′ j
-      (twice-other h n (at w 0) (length body) few j not (λ e. omega arith))
-      (twice-other h n (at w 0) (length body) few (256 + j) (λ e. omega arith) (λ e. not (omega arith)))
-      (twice-other b n 1 0 few j not (λ e. omega arith))
-      (twice-other b n 1 0 few (256 + j) (λ e. omega arith) (λ e. not (omega arith)))
-
   next-is : at w′ 0 ≡ at w 0 + 1
   next-is = getD-set-other (set w 0 (at w 0 + 1)) 1 0 (n + 1) 0 (λ e. omega arith) ∙ getD-set-same w 0 (at w 0 + 1) 0 (omega arith)
 
@@ -62,7 +44,7 @@ module _ (w h b : List ℕ) (o body o′ : Bytes) (p : ℕ) (lw : length w ≡ 1
   count-is = getD-set-same (set w 0 (at w 0 + 1)) 1 (n + 1) 0 (omega (arith, length-set w 0 (at w 0 + 1)))
 
   outbox-is : outboxIn w′ h′ b′ ≡ record { next = at w 0 + 1; records = set (seats 256 (unackedAt h b)) n one; count = n + 1 }
-  outbox-is = rw (next-is, count-is, seats-set 256 n (unackedAt h b) (unackedAt h′ b′) one few here others)
+  outbox-is = rw (next-is, count-is, written h b n (at w 0) (length body) 1 0 few lh lb)
 
   pub joined : Joins w h b o body w′ h′ b′ o′
   joined =

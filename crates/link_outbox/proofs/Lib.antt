@@ -4,3 +4,5 @@ pub mod Records
 pub mod Appends
 pub mod Marks
 pub mod Frees
+pub mod Sweeps
+pub mod Places

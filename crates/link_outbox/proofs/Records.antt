@@ -16,7 +16,7 @@ use Rattle.outbox.specs.View.{lenU, unacked, usedU, unackedOf, endU, blankU}
 use Rattle.outbox.specs.Steps.{Flagged}
 use Rattle.outbox.proofs.Flags.{Flags, total-flags, cut-flags}
 use Rattle.parts.specs.Seats.{seats}
-use Rattle.parts.specs.Parts.{at, unackedAt, outboxIn}
+use Rattle.parts.specs.Parts.{at, flag, unackedAt, outboxIn}
 use Rattle.parts.specs.Frames.{Past}
 use Rattle.parts.proofs.Seats.{length-seats, getD-seats, seats-same, seats-of, take-seats, map-seats}
 
@@ -73,6 +73,30 @@ seats-set {A} m i f g v h e k =
     (λ j r. by-eq j i
     (λ is. ap (λ (x : ℕ). getD (set (seats m f) i v) x v) is ∙ getD-set-same (seats m f) i v v (omega arith) ∙ sym e ∙ ap g (sym is))
     (λ not. getD-set-other (seats m f) i j v v not ∙ getD-seats m f j v r ∙ sym (k j r not))))
+
+-- a record is written: both halves and both bytes of it
+module _ (h b : List ℕ) (i number len pending unsent : ℕ) (k : i < 256) (lh : length h ≡ 772) (lb : length b ≡ 4936) where
+  written-here : unackedAt (twice h i number len k) (twice b i pending unsent k) i ≡ record { number = number; len = len; pending = flag pending; unsent = flag unsent }
+  written-here =
+      let p1 : at (twice h i number len k) i ≡ number = twice-low h i number len k (omega arith) in
+      let p2 : at (twice h i number len k) (256 + i) ≡ len = twice-high h i number len k (omega arith) in
+      let p3 : at (twice b i pending unsent k) i ≡ pending = twice-low b i pending unsent k (omega arith) in
+      let p4 : at (twice b i pending unsent k) (256 + i) ≡ unsent = twice-high b i pending unsent k (omega arith) in
+      rw (p1, p2, p3, p4)
+
+  written-others : (j : ℕ) → j < 256 → (j ≡ i → ⊥) → unackedAt (twice h i number len k) (twice b i pending unsent k) j ≡ unackedAt h b j
+  written-others j r not =
+      unacked-same h b (twice h i number len k) (twice b i pending unsent k) j
+      (twice-other h i number len k j not (λ e. omega arith))
+      (twice-other h i number len k (256 + j) (λ e. omega arith) (λ e. not (omega arith)))
+      (twice-other b i pending unsent k j not (λ e. omega arith))
+      (twice-other b i pending unsent k (256 + j) (λ e. omega arith) (λ e. not (omega arith)))
+
+  pub written : seats 256 (unackedAt (twice h i number len k) (twice b i pending unsent k))
+      ≡ set (seats 256 (unackedAt h b)) i (record { number = number; len = len; pending = flag pending; unsent = flag unsent })
+  written =
+      seats-set 256 i (unackedAt h b) (unackedAt (twice h i number len k) (twice b i pending unsent k))
+      (record { number = number; len = len; pending = flag pending; unsent = flag unsent }) k written-here written-others
 
 -- ---- flags are changed, and nothing else
 

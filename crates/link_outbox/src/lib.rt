@@ -1,12 +1,13 @@
 // The unacked messages of a session that C lends, worked on where they lie. Numbers and pending flags start at index 0 of their parts.
 ghost use mathlib.Core.Path.{_≡_};
-ghost use mathlib.Core.Bool.{Bool, true, false, not, _&&_};
-ghost use lib.Dec.{leb};
+ghost use mathlib.Core.Bool.{Bool, true, false, not, _&&_, _||_};
+ghost use lib.Dec.{leb, ltb};
 ghost use mathlib.Core.List.{List, _∷_, []};
 ghost use Prim.Native.Nat.{ℕ, _+_, _*_, _≤_, _<_};
 ghost use lib.ListN.{length, take, drop, set};
 ghost use lib.Seq.{slice};
-ghost use Rattle.rules.specs.Lists.{total};
+ghost use Rattle.rules.specs.Lists.{if_then_else_, total};
+ghost use Rattle.outbox.specs.Sweeps.{Lowers};
 ghost use Rattle.outbox.specs.View.{lenU};
 ghost use Rattle.outbox.specs.Sound.{soundOutbox};
 ghost use Rattle.parts.specs.Seats.{seats};
@@ -16,6 +17,7 @@ ghost use Rattle.outbox.specs.Records.{placeU};
 ghost use Rattle.outbox.specs.Steps.{Room, Replays};
 ghost use Rattle.link_outbox.specs.Steps.{Joins, Marks, Frees, Drops, freed, Sends};
 ghost use Rattle.link_outbox.specs.Tests.{fall, falls, cap, capU, Bounded, Sought};
+use outbox::Place;
 use parts::{Bytes, Halves, Words};
 
 // A half as a word.
@@ -314,4 +316,102 @@ pub fn replay(words: &Words, halves: &Halves, bytes: &Bytes, list: &mut [u64], n
         i += 1;
     }
     k
+}
+
+// ---- an ack
+
+// Whether an acknowledgement of the numbers up to ack leaves a record.
+fn keeps(number: u32, pending: u8, unsent: u8, ack: u64) -> bool
+    ensures { λ r. ⌜ r ≡ (ltb ack number || flag pending || flag unsent) ⌝ }
+{
+    if ack < number as u64 {
+        return true;
+    }
+    if pending != 0 {
+        return true;
+    }
+    unsent != 0
+}
+
+// Where the body of the next record goes, by whether this one stays: if so, its body has moved down. One that is in its place is not touched.
+fn lower_if(stays: bool, store: &mut [u8], to: usize, from: usize, n: usize) -> usize
+    requires { ⌜ (to ≤ from) × (from + n ≤ length (now store)) ⌝ }
+    ensures { λ r. ⌜ Lowers stays to from n (now (store .entry)) (now (store .exit)) r ⌝ }
+{
+    if !stays {
+        return to;
+    }
+    if to == from {
+        return to + n;
+    }
+    stores::move_down(store, to, from, n);
+    to + n
+}
+
+fn count_if(stays: bool, n: usize) -> usize
+    requires { ⌜ n ≤ 256 ⌝ }
+    ensures { λ r. ⌜ r ≡ (if stays then n + 1 else n) ⌝ }
+{
+    if stays {
+        return n + 1;
+    }
+    n
+}
+
+// The Rust's `acknowledge`: messages up to ack go, except those pending or unsent. One pass; the freed tail is cleared once.
+pub fn acknowledge(words: &mut Words, halves: &mut Halves, bytes: &mut Bytes, store: &mut [u8], ack: u64)
+    requires { ⌜ ExactOutbox (outboxIn (now words) (now halves) (now bytes)) (length (now store)) ⌝ }
+    ensures { λ _. ⌜ Drops ack (now (words .entry)) (now (halves .entry)) (now (bytes .entry)) (now (store .entry)) (now (words .exit)) (now (halves .exit)) (now (bytes .exit)) (now (store .exit)) ⌝ }
+{
+    full_words(words);
+    full_halves(halves);
+    full_bytes(bytes);
+    let count = words[parts::UNACKED] as usize;
+    let mut k = 0;
+    let mut to = 0;
+    let mut from = 0;
+    let mut i = 0;
+    while i < count {
+        let number = halves[i];
+        let len = halves[parts::UNACKED_LENS + i];
+        let pending = bytes[i];
+        let unsent = bytes[parts::UNSENT + i];
+        let n = size(len);
+        let stays = keeps(number, pending, unsent, ack);
+        let end = lower_if(stays, store, to, from, n);
+        halves[k] = number;
+        halves[parts::UNACKED_LENS + k] = len;
+        bytes[k] = pending;
+        bytes[parts::UNSENT + k] = unsent;
+        k = count_if(stays, k);
+        to = end;
+        from += n;
+        i += 1;
+    }
+    stores::clear(store, to, from);
+    words[parts::UNACKED] = k as u64;
+}
+
+// ---- a fetch
+
+// Where the body of a number lies.
+pub fn locate(words: &Words, halves: &Halves, number: u64) -> Place
+    requires { ⌜ Bounded (now halves) (at (now words) 1) ⌝ }
+    ensures { λ r. ⌜ ((b : List ℕ) → r ≡ placeU number 0 (usedU (outboxIn (now (words .entry)) (now (halves .entry)) b))) ⌝ }
+{
+    let count = words[parts::UNACKED] as usize;
+    let mut from = 0;
+    let mut i = 0;
+    while i < count {
+        let len = size(halves[parts::UNACKED_LENS + i]);
+        if wide(halves[i]) == number {
+            return Place::At {
+                start: from,
+                len: len,
+            };
+        }
+        from += len;
+        i += 1;
+    }
+    Place::Nowhere
 }
