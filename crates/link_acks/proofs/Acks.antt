@@ -1,0 +1,166 @@
+-- An ack on the parts of a session, done in place. Assumes nothing.
+use Prim.Native.Nat.{ℕ, _+_, _-_, _≤_, _<_}
+use mathlib.Core.Path.{_≡_, refl, sym, ap, _∙_, subst}
+use mathlib.Core.Bool.{Bool, true, false, _&&_, _||_}
+use mathlib.Core.List.{List}
+use native.Mathlib.Omega.{arith}
+use lib.Ieee.{Float}
+use lib.ListN.{length, set, length-set}
+use lib.Seq.{getD-set-same}
+use lib.Dec.{leb, eqb}
+use borrow.Author.Tests.{eq-eqb, ne-eqb}
+use Rattle.rules.specs.declared.Answer.the-variants.{Flag}
+use Rattle.rules.specs.declared.Clock.{Clock}
+use Rattle.rules.specs.Lists.{Bytes, if_then_else_, kept}
+use Rattle.rules.specs.State.{is-raw}
+use Rattle.rules.specs.Receiving.{mode-of}
+use Rattle.rules.specs.Acks.{survives}
+use Rattle.rules.specs.Calls.{gets-ack}
+use Rattle.rules.specs.Setup.{rejection-complete}
+use Rattle.events.specs.Written.{Listed, asked}
+use Rattle.outbox.specs.View.{unackedOf, ExactOutbox}
+use Rattle.outbox.specs.Steps.{Left}
+use Rattle.peer_session.specs.declared.Stage.{Stage}
+use Rattle.peer_session.specs.declared.TerminalHandoff.{TerminalHandoff}
+use Rattle.peer_session.specs.View.{stateOf}
+use Rattle.peer_session.specs.Sound.{soundOf, Full}
+use Rattle.session.specs.Promise.{CalledWithStores}
+use Rattle.session.proofs.Queries.{complete-no}
+use Rattle.acks.specs.Steps.{clockAfter, notices}
+use Rattle.acks.proofs.Steps.{acknowledges, acked-is}
+use Rattle.acks.proofs.Acks as A
+use Rattle.parts.specs.declared.StageCodes.{StageCodes}
+use Rattle.parts.specs.declared.LinkAnswer.{LinkAnswer}
+use Rattle.parts.specs.Codes.{good-codes, good-stage, bad-stage, stageOf, answerOf}
+use Rattle.parts.specs.Parts.{Parts, parts, at, flag, section, outboxIn, waitingIn, retryIn, clockIn, codesIn, handoffIn, openedOf}
+use Rattle.parts.specs.Frames.{Past}
+use Rattle.parts.specs.Driven.{Driven}
+use Rattle.parts.proofs.Fields.{Agree, agree-past, agree-set, agree-then, outbox-same, numbers-same, section-same}
+use Rattle.parts.proofs.After.{Kept, other, after, agree-all}
+use Rattle.parts.proofs.Drives.{changes}
+use Rattle.link_sound.proofs.Parts.{Usable, usable}
+use Rattle.link_acks.specs.Acks.{InPlace, raisedIf}
+use Rattle.link_acks.proofs.Lengths.{bytes-long}
+
+-- ---- what the codes say, good ones or not
+
+either : (P : Stage → Type 0) (c : Bool) (x y : Stage) → P x → P y → P (if c then x else y)
+either P true x y hx hy = hx
+either P false x y hx hy = hy
+
+module _ (g : StageCodes) where
+  raw-code : g .mode ≡ 0 → true ≡ is-raw (stageOf g .mode)
+  raw-code e = either (λ (s : Stage). true ≡ is-raw (s .mode)) (good-codes g) (good-stage g) (bad-stage g) (rw (eq-eqb (g .mode) 0 e)) refl
+
+  other-disposition : (g .disposition ≡ 4 → ⊥) → stageOf g .disposition ≡ 4 → ⊥
+  other-disposition h = either (λ (s : Stage). s .disposition ≡ 4 → ⊥) (good-codes g) (good-stage g) (bad-stage g) h (λ e. omega (arith, e))
+
+-- ---- what is left
+
+module _ (w h b : List ℕ) (t : Float) (lh : 772 ≤ length h) (lw : 1296 ≤ length w) (lb : 4936 ≤ length b) (w′ h′ b′ : List ℕ) (left : ℕ) (words : w′ ≡ set w 1 left)
+    (halves : Past 512 h h′) (bytes : Past 512 b b′) (g f : ℕ) where
+  -- halves with the generation g, bytes with the handoff's flag f
+  abbrev dated : List ℕ
+  dated = set h′ 768 g
+
+  abbrev told : List ℕ
+  told = set b′ 774 f
+
+  words-agree : (c d : ℕ) → (c ≤ 1 → 1 < d → ⊥) → Agree c d w w′
+  words-agree c d out = rw words (agree-set w 1 left c d out)
+
+  words-size : length w′ ≡ length w
+  words-size = rw words (length-set w 1 left)
+
+  halves-agree : (c d : ℕ) → 512 ≤ c → (c ≤ 768 → 768 < d → ⊥) → Agree c d h dated
+  halves-agree c d k out = agree-then (agree-past c d k halves) (agree-set h′ 768 g c d out)
+
+  bytes-agree : (c d : ℕ) → 512 ≤ c → (c ≤ 774 → 774 < d → ⊥) → Agree c d b told
+  bytes-agree c d k out = agree-then (agree-past c d k bytes) (agree-set b′ 774 f c d out)
+
+  bytes-size : length told ≡ length b
+  bytes-size = length-set b′ 774 f ∙ bytes .size
+
+  stays : Kept w h b w′ dated told
+  stays =
+      record {
+        words = words-size;
+        bytes = bytes-size;
+        remote = words-agree 2 3 (λ p q. omega arith);
+        queued = words-agree 4 5 (λ p q. omega arith);
+        rest = words-agree 7 272 (λ p q. omega arith);
+        lens = halves-agree 512 768 (omega arith) (λ p q. omega arith);
+        terms = halves-agree 771 772 (omega arith) (λ p q. omega arith);
+        codes = bytes-agree 512 773 (omega arith) (λ p q. omega arith);
+        bodies = bytes-agree 776 4936 (omega arith) (λ p q. omega arith);
+      }
+
+  abbrev newClock : Clock
+  newClock = record { «last_replay_at» = t; generation = g; released = at h 769; persisted = at h 770 }
+
+  pub clock-dated : clockIn dated t ≡ newClock
+  clock-dated =
+      let x : at dated 768 ≡ g = getD-set-same h′ 768 g 0 (omega (arith, halves .size)) in
+      let k : Agree 769 771 h dated = halves-agree 769 771 (omega arith) (λ p q. omega arith) in
+      let y : at dated 769 ≡ at h 769 = k .same 769 (omega arith) (omega arith) in
+      let z : at dated 770 ≡ at h 770 = k .same 770 (omega arith) (omega arith) in
+      rw (x, y, z)
+
+  abbrev newHandoff : TerminalHandoff
+  newHandoff = record { body = section 776 4096 b; len = at w 7; id = at w 8; number = at w 9; sent = flag (at b 773); acknowledged = flag f; present = flag (at b 775) }
+
+  handoff-told : handoffIn w′ told ≡ newHandoff
+  handoff-told =
+      let k : Agree 7 10 w w′ = words-agree 7 10 (λ p q. omega arith) in
+      let n : at w′ 7 ≡ at w 7 = k .same 7 (omega arith) (omega arith) in
+      let i : at w′ 8 ≡ at w 8 = k .same 8 (omega arith) (omega arith) in
+      let m : at w′ 9 ≡ at w 9 = k .same 9 (omega arith) (omega arith) in
+      let s : at told 773 ≡ at b 773 = bytes-agree 773 774 (omega arith) (λ p q. omega arith) .same 773 (omega arith) (omega arith) in
+      let a : at told 774 ≡ f = getD-set-same b′ 774 f 0 (omega (arith, bytes .size)) in
+      let p : at told 775 ≡ at b 775 = bytes-agree 775 776 (omega arith) (λ p q. omega arith) .same 775 (omega arith) (omega arith) in
+      let r : section 776 4096 told ≡ section 776 4096 b = section-same 776 4096 b told (omega arith) bytes-size (bytes-agree 776 (776 + 4096) (omega arith) (λ p q. omega arith)) in
+      rw (n, i, m, s, a, p, r)
+
+  ack-leaves : openedOf (parts w′ dated told t)
+      ≡ other (openedOf (parts w h b t)) (outboxIn w′ h′ b′) (at w 3) (waitingIn w) (retryIn w) newClock newHandoff
+  ack-leaves =
+      after w h b w′ dated told t t lb stays
+      (outbox-same (agree-all 0 2 w′) (agree-set h′ 768 g 0 512 (λ p q. omega arith)) (agree-set b′ 774 f 0 512 (λ p q. omega arith)))
+      (words-agree 3 4 (λ p q. omega arith) .same 3 (omega arith) (omega arith))
+      (numbers-same (omega arith) words-size (words-agree 5 (5 + 1) (λ p q. omega arith)) (words-agree 272 (272 + 512) (λ p q. omega arith)))
+      (numbers-same (omega arith) words-size (words-agree 6 (6 + 1) (λ p q. omega arith)) (words-agree 784 (784 + 512) (λ p q. omega arith)))
+      clock-dated handoff-told
+
+-- ---- the call
+
+clock-raised : (e : Bool) (c : Clock) → record { «last_replay_at» = c .«last_replay_at»; generation = raisedIf e (c .generation); released = c .released; persisted = c .persisted } ≡ clockAfter e c
+clock-raised true c = refl
+clock-raised false c = refl
+
+module _ (w h b : List ℕ) (t : Float) (l : List ℕ) (o : Bytes) (number : ℕ) (ready : InPlace (parts w h b t) (length l) (length o) number) where
+  used : Usable w h b
+  used = usable w h b t (record { is = sym (ready .sound); full = ready .full })
+
+  -- what the sweep asks of the messages
+  pub messages-exact : ExactOutbox (outboxIn w h b) (length o)
+  messages-exact = used .unacked o (ready .outbound)
+
+  module _ (w′ h′ b′ : List ℕ) (o′ : Bytes) (left : Left (outboxIn w h b) o (kept (survives number) (unackedOf (outboxIn w h b) o)) (outboxIn w′ h′ b′) o′)
+      (k : ℕ) (words : w′ ≡ set w 1 k) (halves : Past 512 h h′) (bytes : Past 512 b b′) (g f : ℕ) (raised : g ≡ raisedIf (eqb (at w′ 1) (at w 1)) (at h 768))
+      (flagged : flag f ≡ (flag (at b 774) || (flag (at b 773) && leb (at w 9) number))) where
+    pub went : {l₁ l₂ : List ℕ} {n₁ n : ℕ} → Listed (asked (clockIn (set h′ 768 g) t)) l 0 l₁ n₁ → Listed (notices number false true) l₁ n₁ l₂ n
+        → {y : LinkAnswer} → y ≡ answerOf (Flag true) n → (q : Bytes) → 32768 ≤ length q
+        → Driven (parts w h b t) (parts w′ (set h′ 768 g) (set b′ 774 f) t) y (λ s r. CalledWithStores (gets-ack number) s l o q r l₂ o′ q)
+    unfolding openedOf
+    went {l₁} {l₂} {n₁} {n} li lj e q lq =
+        changes (parts w h b t) (ready .sound) (parts w′ (set h′ 768 g) (set b′ 774 f) t) _
+        (ack-leaves w h b t (ready .halves) (used .words) (bytes-long w h b t (ready .full)) w′ h′ b′ k words halves bytes g f)
+        (Flag true) n e
+        (λ d. A.goes number (openedOf (parts w h b t)) l o q d (ready .list) (ready .outbound) lq (ready .sound) (ready .full) (ready .low)
+        (A.in-range number (at w 0) (ready .one) (omega (arith, ready .next)))
+        (acked-is number (openedOf (parts w h b t)) l o _ o′
+        (acknowledges number (openedOf (parts w h b t)) o (outboxIn w′ h′ b′) o′ _ (flag f) messages-exact left
+        (ap (λ (i : ℕ). record { «last_replay_at» = t; generation = i; released = at h 769; persisted = at h 770 }) raised ∙ clock-raised (eqb (at w′ 1) (at w 1)) (clockIn h t)) flagged)
+        (subst (λ (c : Clock). Listed (asked c) l 0 l₁ n₁) (clock-dated w h b t (ready .halves) (used .words) (bytes-long w h b t (ready .full)) w′ h′ b′ k words halves bytes g f) li)
+        (λ x y. complete-no (stageOf (codesIn h b) .disposition) _ (other-disposition (codesIn h b) (ready .disposition)))
+        (raw-code (codesIn h b) (ready .raw)) lj))
