@@ -98,7 +98,5 @@ pub extern "C" fn link_keepalive(
 ) -> LinkAnswer
     ensures { λ x. ⌜ DrivenTold (parts (now (words .entry)) (now (halves .entry)) (now (bytes .entry)) (now (clock .entry))) x (λ s y. ToldWithList gets-keepalive s (now (list .entry)) y (now (list .exit))) ⌝ }
 {
-    let s = link_codes::opened(words, halves, bytes, clock);
-    let r = acks::receive_keepalive(s, list);
-    link_codes::told(r)
+    link_acks::keepalive(words, halves, bytes, clock, list)
 }

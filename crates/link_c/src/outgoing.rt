@@ -4,7 +4,6 @@ ghost use Rattle.session.specs.Promise.{CalledWithList, CalledWithOutbound, Ans
 ghost use Rattle.fetches.specs.Fetched.{AnsweredWithOutbound};
 ghost use Rattle.parts.specs.Parts.{parts};
 ghost use Rattle.parts.specs.Driven.{Driven, DrivenAnswer};
-use crate::drive;
 use parts::Bytes;
 use parts::Halves;
 use parts::LinkAnswer;
@@ -17,17 +16,14 @@ pub extern "C" fn link_send(
     words: &mut Words,
     halves: &mut Halves,
     bytes: &mut Bytes,
-    clock: &mut f64,
+    clock: &f64,
     list: &mut [u64],
     outbound: &mut [u8],
     body: &[u8],
 ) -> LinkAnswer
-    ensures { λ x. ⌜ Driven (parts (now (words .entry)) (now (halves .entry)) (now (bytes .entry)) (now (clock .entry))) (parts (now (words .exit)) (now (halves .exit)) (now (bytes .exit)) (now (clock .exit))) x (λ s y. CalledWithOutbound (sends (now (body .entry))) s (now (list .entry)) (now (outbound .entry)) y (now (list .exit)) (now (outbound .exit))) ⌝ }
+    ensures { λ x. ⌜ Driven (parts (now (words .entry)) (now (halves .entry)) (now (bytes .entry)) (now (clock .entry))) (parts (now (words .exit)) (now (halves .exit)) (now (bytes .exit)) (now (clock .entry))) x (λ s y. CalledWithOutbound (sends (now (body .entry))) s (now (list .entry)) (now (outbound .entry)) y (now (list .exit)) (now (outbound .exit))) ⌝ }
 {
-    let s = link_codes::opened(words, halves, bytes, clock);
-    let sound = peer_session::sound(s);
-    let r = sending::send_message(s, list, outbound, body);
-    drive::finished(words, halves, bytes, clock, sound, r)
+    link_sending::send(words, halves, bytes, clock, list, outbound, body)
 }
 
 // The commit record to save: generation, outbound, remote.
@@ -40,9 +36,7 @@ pub extern "C" fn link_prepare(
 ) -> LinkAnswer
     ensures { λ x. ⌜ DrivenAnswer (parts (now (words .entry)) (now (halves .entry)) (now (bytes .entry)) (now (clock .entry))) x (λ s a. Answered prepares s a) ⌝ }
 {
-    let s = link_codes::opened(words, halves, bytes, clock);
-    let a = commits::prepare_commit(s);
-    link_codes::answer_of(a, 0)
+    link_commits::prepare(words, halves, bytes, clock)
 }
 
 // A commit record was saved, or was not.
@@ -51,57 +45,48 @@ pub extern "C" fn link_complete(
     words: &mut Words,
     halves: &mut Halves,
     bytes: &mut Bytes,
-    clock: &mut f64,
+    clock: &f64,
     list: &mut [u64],
     commit: PreparedCommit,
     persisted: bool,
 ) -> LinkAnswer
-    ensures { λ x. ⌜ Driven (parts (now (words .entry)) (now (halves .entry)) (now (bytes .entry)) (now (clock .entry))) (parts (now (words .exit)) (now (halves .exit)) (now (bytes .exit)) (now (clock .exit))) x (λ s y. CalledWithList (completes commit persisted) s (now (list .entry)) y (now (list .exit))) ⌝ }
+    ensures { λ x. ⌜ Driven (parts (now (words .entry)) (now (halves .entry)) (now (bytes .entry)) (now (clock .entry))) (parts (now (words .exit)) (now (halves .exit)) (now (bytes .exit)) (now (clock .entry))) x (λ s y. CalledWithList (completes commit persisted) s (now (list .entry)) y (now (list .exit))) ⌝ }
 {
-    let s = link_codes::opened(words, halves, bytes, clock);
-    let sound = peer_session::sound(s);
-    let r = commits::complete_commit(s, list, commit, persisted);
-    drive::finished(words, halves, bytes, clock, sound, r)
+    link_commits::complete(words, halves, bytes, clock, list, commit, persisted)
 }
 
 // Whether the line accepted a frame: what is 0 of data, 1 of an ack.
 #[no_mangle]
 pub extern "C" fn link_report(
     words: &mut Words,
-    halves: &mut Halves,
+    halves: &Halves,
     bytes: &mut Bytes,
-    clock: &mut f64,
+    clock: &f64,
     list: &mut [u64],
     what: u64,
     number: u64,
     accepted: bool,
 ) -> LinkAnswer
-    ensures { λ x. ⌜ Driven (parts (now (words .entry)) (now (halves .entry)) (now (bytes .entry)) (now (clock .entry))) (parts (now (words .exit)) (now (halves .exit)) (now (bytes .exit)) (now (clock .exit))) x (λ s y. CalledWithList (reports what number accepted) s (now (list .entry)) y (now (list .exit))) ⌝ }
+    ensures { λ x. ⌜ Driven (parts (now (words .entry)) (now (halves .entry)) (now (bytes .entry)) (now (clock .entry))) (parts (now (words .exit)) (now (halves .entry)) (now (bytes .exit)) (now (clock .entry))) x (λ s y. CalledWithList (reports what number accepted) s (now (list .entry)) y (now (list .exit))) ⌝ }
 {
-    let s = link_codes::opened(words, halves, bytes, clock);
-    let sound = peer_session::sound(s);
-    let r = acks::report(s, list, what, number, accepted);
-    drive::finished(words, halves, bytes, clock, sound, r)
+    link_acks::report(words, halves, bytes, clock, list, what, number, accepted)
 }
 
 // The line's state changed, or time passed: unacked messages are sent again.
 #[no_mangle]
 pub extern "C" fn link_connectivity(
-    words: &mut Words,
-    halves: &mut Halves,
-    bytes: &mut Bytes,
+    words: &Words,
+    halves: &Halves,
+    bytes: &Bytes,
     clock: &mut f64,
     list: &mut [u64],
     event: u64,
     time: f64,
     force: bool,
 ) -> LinkAnswer
-    ensures { λ x. ⌜ Driven (parts (now (words .entry)) (now (halves .entry)) (now (bytes .entry)) (now (clock .entry))) (parts (now (words .exit)) (now (halves .exit)) (now (bytes .exit)) (now (clock .exit))) x (λ s y. CalledWithList (connects event time force) s (now (list .entry)) y (now (list .exit))) ⌝ }
+    ensures { λ x. ⌜ Driven (parts (now (words .entry)) (now (halves .entry)) (now (bytes .entry)) (now (clock .entry))) (parts (now (words .entry)) (now (halves .entry)) (now (bytes .entry)) (now (clock .exit))) x (λ s y. CalledWithList (connects event time force) s (now (list .entry)) y (now (list .exit))) ⌝ }
 {
-    let s = link_codes::opened(words, halves, bytes, clock);
-    let sound = peer_session::sound(s);
-    let r = replays::connectivity(s, list, event, time, force);
-    drive::finished(words, halves, bytes, clock, sound, r)
+    link_replays::connectivity(words, halves, bytes, clock, list, event, time, force)
 }
 
 // Whether a number is held, and where its body lies in the outbound store.
@@ -116,7 +101,5 @@ pub extern "C" fn link_find(
 ) -> LinkAnswer
     ensures { λ x. ⌜ DrivenAnswer (parts (now (words .entry)) (now (halves .entry)) (now (bytes .entry)) (now (clock .entry))) x (λ s a. AnsweredWithOutbound (fetches number) s (now (outbound .entry)) a) ⌝ }
 {
-    let s = link_codes::opened(words, halves, bytes, clock);
-    let a = fetches::find(s, outbound, number);
-    link_codes::answer_of(a, 0)
+    link_replays::find(words, halves, bytes, clock, outbound, number)
 }
