@@ -4,15 +4,15 @@ use Rattle.link_codes.proofs.opened.Statement.{statement}
 use Rattle.link_codes.proofs.opened.Tie as tie
 use Rattle.link_codes.proofs.opened.Reads as reads
 use Rattle.link_codes.proofs.opened.Lts as lts
-use Rattle.link_codes.proofs.clock_in.Reads as clock-in-reads
+use Rattle.link_codes.proofs.reading.clock_in.Reads as clock-in-reads
 use Rattle.link_codes.proofs.codes.Reads as codes-reads
-use Rattle.link_codes.proofs.handoff_in.Reads as handoff-in-reads
-use Rattle.link_codes.proofs.numbers_in.Reads as numbers-in-reads
-use Rattle.link_codes.proofs.outbox_in.Reads as outbox-in-reads
-use Rattle.link_codes.proofs.policy_in.Reads as policy-in-reads
-use Rattle.link_codes.proofs.queue_in.Reads as queue-in-reads
-use Rattle.link_codes.proofs.reject_in.Reads as reject-in-reads
-use Rattle.link_codes.proofs.stage_of.Reads as stage-of-reads
+use Rattle.link_codes.proofs.reading.handoff_in.Reads as handoff-in-reads
+use Rattle.link_codes.proofs.reading.numbers_in.Reads as numbers-in-reads
+use Rattle.link_codes.proofs.reading.outbox_in.Reads as outbox-in-reads
+use Rattle.link_codes.proofs.reading.policy_in.Reads as policy-in-reads
+use Rattle.link_codes.proofs.reading.queue_in.Reads as queue-in-reads
+use Rattle.link_codes.proofs.reading.reject_in.Reads as reject-in-reads
+use Rattle.link_codes.proofs.coding.stage_of.Reads as stage-of-reads
 
 -- src/lib.rt:273:9
 outbox-in-requires : tie.Need-outbox-in-requires

@@ -7,10 +7,10 @@ use Rattle.link_codes.proofs.store.Statement.{statement}
 use Rattle.link_codes.proofs.store.Tie as tie
 use Rattle.link_codes.proofs.store.Reads as reads
 use Rattle.link_codes.proofs.store.Lts as lts
-use Rattle.link_codes.proofs.stage_codes.Reads as stage-codes-reads
-use Rattle.link_codes.proofs.store_bytes.Reads as store-bytes-reads
-use Rattle.link_codes.proofs.store_halves.Reads as store-halves-reads
-use Rattle.link_codes.proofs.store_words.Reads as store-words-reads
+use Rattle.link_codes.proofs.coding.stage_codes.Reads as stage-codes-reads
+use Rattle.link_codes.proofs.writing.store_bytes.Reads as store-bytes-reads
+use Rattle.link_codes.proofs.writing.store_halves.Reads as store-halves-reads
+use Rattle.link_codes.proofs.writing.store_words.Reads as store-words-reads
 
 full : (a : tie.Start) → Full (a .args .s)
 full a =
