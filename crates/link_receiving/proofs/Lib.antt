@@ -1,0 +1,3 @@
+-- The laws of data in place: `Idle` a drain that takes nothing; `Called` the two ways as the driver's call.
+pub mod Idle
+pub mod Calls

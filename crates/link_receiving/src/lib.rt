@@ -1,0 +1,1 @@
+// `link_data` on the parts of a session, in place.
