@@ -59,6 +59,29 @@ pub record Fresh (f : Frame) (s : SessionState) : Type 0 where
   pub near : f .number - (s .remote + 1) ≤ s .policy .gap
   pub free : s .waiting .count + s .queue .count < 512
 
+-- the session that a delivery of number n leaves
+abbrev pub taken : ℕ → SessionState → SessionState
+taken n s =
+    record {
+      outbox = s .outbox;
+      remote = n;
+      released = s .released;
+      queue = s .queue;
+      waiting = with-last n (s .waiting);
+      retry = s .retry;
+      clock =
+          record {
+            «last_replay_at» = s .clock .«last_replay_at»;
+            generation = s .clock .generation + 1;
+            released = s .clock .released;
+            persisted = s .clock .persisted;
+          };
+      stage = s .stage;
+      handoff = s .handoff;
+      policy = s .policy;
+      reject = s .reject;
+    }
+
 later-by : (a n d t : Bool) → t ≡ false → (a ≡ true → n ≡ true → ⊥) → ((a && n && d) || (a && not n && t)) ≡ false
 later-by true true d t e h = absurd (h refl refl)
 later-by true false d t e h = e
@@ -141,29 +164,6 @@ module _ (status : HostStatus) (f : Frame) (s : SessionState) (l : List ℕ) (d 
       abbrev acks : Numbers
       acks = with-last (f .number) (s .waiting)
 
-      -- the session that it leaves
-      abbrev pub taken : SessionState
-      taken =
-          record {
-            outbox = s .outbox;
-            remote = f .number;
-            released = s .released;
-            queue = s .queue;
-            waiting = with-last (f .number) (s .waiting);
-            retry = s .retry;
-            clock =
-                record {
-                  «last_replay_at» = s .clock .«last_replay_at»;
-                  generation = s .clock .generation + 1;
-                  released = s .clock .released;
-                  persisted = s .clock .persisted;
-                };
-            stage = s .stage;
-            handoff = s .handoff;
-            policy = s .policy;
-            reject = s .reject;
-          }
-
       acked : Holds (put itself (f .number) (inUse (s .waiting))) acks
       acked =
           let ex = check-fits a .0 in
@@ -177,14 +177,14 @@ module _ (status : HostStatus) (f : Frame) (s : SessionState) (l : List ℕ) (d 
       unfolding front
       leading = leads (f .number) (s .queue) 0 (omega arith) (rw alone)
 
-      module _ {l₂ : List ℕ} {k : ℕ} (first : Listed (asked (taken .clock)) l₁ (0 + 1) l₂ k) where
+      module _ {l₂ : List ℕ} {k : ℕ} (first : Listed (asked (taken (f .number) s .clock)) l₁ (0 + 1) l₂ k) where
         gone : Delivered f (turnOf s) (books l 0 d 0) (record { turn = turn; events = k; at = 0 + length (f .body); stop = No }) l₂ d′
         gone =
             deliver-goes f (turnOf s) (books l 0 d 0) (ready-within l 0 d 0 (Now.ready now)) (record { turn = turnOf s; events = 0 + 1; at = 0 + length (f .body); stop = No }) l₁ d′
             (did-consumed f (h .raw) (raw-is f) (omega arith) (did-message (turnOf s) (books l 0 d 0) f l₁ d′ ho)) refl l₂ k first
 
-        module _ {l′ : List ℕ} {n : ℕ} (second : Listed (asked (taken .clock)) l₂ k l′ n) (e : length l′ ≡ length l) (e′ : length d′ ≡ length d) where
-          pub delivered : Called (gets-data status f) s (lent l d o q) (record { session = taken; answer = Flag true; events = n }) (lent l′ d′ o q)
+        module _ {l′ : List ℕ} {n : ℕ} (second : Listed (asked (taken (f .number) s .clock)) l₂ k l′ n) (e : length l′ ≡ length l) (e′ : length d′ ≡ length d) where
+          pub delivered : Called (gets-data status f) s (lent l d o q) (record { session = taken (f .number) s; answer = Flag true; events = n }) (lent l′ d′ o q)
           delivered =
               new-by status f s l d o q a (h .kind) checked refl
               (Now.now-taken now gone refl acked leading second

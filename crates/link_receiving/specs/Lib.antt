@@ -1,1 +1,2 @@
 -- What the contracts of data in place cite.
+pub mod Steps
