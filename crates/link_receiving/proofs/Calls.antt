@@ -45,19 +45,10 @@ use Rattle.receiving.proofs.Checks.{few-of, full-few, is-new}
 use Rattle.receiving.proofs.Data.{check-fits, new-fits, new-by}
 use Rattle.receiving.proofs.Now as Now
 use Rattle.receiving.proofs.Later as Later
+use Rattle.link_receiving.specs.Ways.{Fresh}
 use Rattle.link_receiving.proofs.Idle.{carried-empty, carried-still}
 
 -- ---- new data in Raw mode
-
--- no duplicate, and past the checks
-pub record Fresh (f : Frame) (s : SessionState) : Type 0 where
-  pub kind : f .kind ≤ 2
-  pub raw : s .stage .mode ≡ Raw
-  pub short : length (f .body) ≤ s .policy .body
-  pub new : s .remote < f .number
-  pub last : f .number ≤ 18446744073709551614
-  pub near : f .number - (s .remote + 1) ≤ s .policy .gap
-  pub free : s .waiting .count + s .queue .count < 512
 
 -- the session that a delivery of number n leaves
 abbrev pub taken : ℕ → SessionState → SessionState

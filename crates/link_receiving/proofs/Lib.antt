@@ -3,3 +3,4 @@ pub mod Idle
 pub mod Calls
 pub mod Queues
 pub mod Opens
+pub mod Sums

@@ -129,7 +129,7 @@ module _ (w h b : List ℕ) (t : Float) (lw : length w ≡ 1296) (lh : length h 
     waiting-is : waitingIn w₂ ≡ with-last number (waitingIn w)
     waiting-is = let a : section 272 512 w₂ ≡ set (section 272 512 w) n number = acks-are in let c : at w₂ 5 ≡ n + 1 = count-is in rw (a, c)
 
-    clock-is : clockIn h₂ t ≡ record { «last_replay_at» = t; generation = at h 768 + 1; released = at h 769; persisted = at h 770 }
+    pub clock-is : clockIn h₂ t ≡ record { «last_replay_at» = t; generation = at h 768 + 1; released = at h 769; persisted = at h 770 }
     clock-is =
         let a : at h₂ 768 ≡ at h 768 + 1 = getD-set-same h 768 (at h 768 + 1) 0 (omega arith) in
         let c : at h₂ 769 ≡ at h 769 = getD-set-other h 768 769 (at h 768 + 1) 0 (λ z. omega arith) in

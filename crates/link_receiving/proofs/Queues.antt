@@ -100,8 +100,7 @@ module _ (w h b : List ℕ) (q : Bytes) (ex : ExactQueue (queueIn w h b) (length
 
 -- ---- the frame put in
 
-module _ (w h b : List ℕ) (q : Bytes) (number kind : ℕ) (body : Bytes) (lw : length w ≡ 1296) (lh : length h ≡ 772) (lb : length b ≡ 4936)
-    (end : ℕ) (pre : Joins w h b (length q) end (length body)) where
+module _ (w h b : List ℕ) (q : Bytes) (number kind : ℕ) (body : Bytes) (end : ℕ) (pre : Joins w h b (length q) end (length body)) where
   abbrev n : ℕ
   n = at w 4
 
@@ -124,7 +123,7 @@ module _ (w h b : List ℕ) (q : Bytes) (number kind : ℕ) (body : Bytes) (lw :
   free = pre .room .free
 
   counted : at w′ 4 ≡ n + 1
-  counted = getD-set-same w₁ 4 (n + 1) 0 (omega (arith, length-set w (16 + n) number))
+  counted = getD-set-same w₁ 4 (n + 1) 0 (omega (arith, length-set w (16 + n) number, pre .words))
 
   old : (i : ℕ) → i < n → queuedAt w′ h′ b′ i ≡ queuedAt w h b i
   old i l =
@@ -137,9 +136,9 @@ module _ (w h b : List ℕ) (q : Bytes) (number kind : ℕ) (body : Bytes) (lw :
   newest : queuedAt w′ h′ b′ n ≡ recordQ (arrived number kind body)
   newest =
       let e₀ : at w′ (16 + n) ≡ at w₁ (16 + n) = getD-set-other w₁ 4 (16 + n) (n + 1) 0 (λ z. omega arith) in
-      let e₁ : at w₁ (16 + n) ≡ number = getD-set-same w (16 + n) number 0 (omega (arith, free)) in
-      let e₂ : at h′ (512 + n) ≡ length body = getD-set-same h (512 + n) (length body) 0 (omega (arith, free)) in
-      let e₃ : at b′ (512 + n) ≡ kind = getD-set-same b (512 + n) kind 0 (omega (arith, free)) in
+      let e₁ : at w₁ (16 + n) ≡ number = getD-set-same w (16 + n) number 0 (omega (arith, free, pre .words)) in
+      let e₂ : at h′ (512 + n) ≡ length body = getD-set-same h (512 + n) (length body) 0 (omega (arith, free, pre .halves)) in
+      let e₃ : at b′ (512 + n) ≡ kind = getD-set-same b (512 + n) kind 0 (omega (arith, free, pre .bytes)) in
       cc
 
   used : usedQ (queueIn w′ h′ b′) ≡ usedQ x ++ (recordQ (arrived number kind body) ∷ [])

@@ -1,1 +1,98 @@
-// `link_data` on the parts of a session, in place.
+// `link_data` on the parts of a session: in Raw mode a frame is delivered, or joins the queue, where they lie. All else goes by value.
+ghost use mathlib.Core.Path.{_≡_};
+ghost use mathlib.Core.Bool.{true};
+ghost use Prim.Native.Nat.{ℕ, _+_, _≤_, _<_};
+ghost use lib.ListN.{length};
+ghost use Rattle.rules.specs.declared.Answer.the-variants.{Flag};
+ghost use Rattle.rules.specs.Calls.{gets-data};
+ghost use Rattle.session.specs.Promise.{lent, Called};
+ghost use Rattle.delivery.specs.Turns.{frameOf};
+ghost use Rattle.parts.specs.Codes.{answerOf};
+ghost use Rattle.parts.specs.Parts.{parts, clockIn};
+ghost use Rattle.parts.specs.Driven.{Driven};
+ghost use Rattle.link_receiving.specs.Steps.{bodies, Summing, Joins, Joined, Confirms, Confirmed};
+ghost use Rattle.link_receiving.specs.Ways.{Data, Now, Later};
+use parts::Bytes;
+use parts::Halves;
+use parts::LinkAnswer;
+use parts::Words;
+use rules::Clock;
+use rules::HostStatus;
+
+// ---- what is written
+
+fn clock_of(halves: &Halves, clock: &f64) -> Clock
+    ensures { λ r. ⌜ r ≡ clockIn (now (halves .entry)) (now (clock .entry)) ⌝ }
+{
+    Clock {
+        last_replay_at: *clock,
+        generation: halves[parts::GENERATION],
+        released: halves[parts::RELEASED_GENERATION],
+        persisted: halves[parts::PERSISTED_GENERATION],
+    }
+}
+
+// Data's answer: true.
+fn taken(events: usize) -> LinkAnswer
+    ensures { λ r. ⌜ r ≡ answerOf (Flag true) events ⌝ }
+{
+    LinkAnswer {
+        refusal: 0,
+        kind: 2,
+        value: 1,
+        second: 0,
+        third: 0,
+        events: events,
+    }
+}
+
+// Where the bodies of the queued frames end.
+fn used(halves: &Halves, count: usize) -> usize
+    requires { ⌜ Summing (now halves) count ⌝ }
+    ensures { λ r. ⌜ r ≡ bodies (now (halves .entry)) count ⌝ }
+{
+    let mut sum: u32 = 0;
+    let mut i = 0;
+    while i < count {
+        sum += halves[parts::QUEUED_LENS + i];
+        i += 1;
+    }
+    sum as usize
+}
+
+// A frame goes in after those that are queued, whose bodies end at index end of the store.
+fn join(
+    words: &mut Words,
+    halves: &mut Halves,
+    bytes: &mut Bytes,
+    store: &mut [u8],
+    end: usize,
+    number: u64,
+    kind: u8,
+    body: &[u8],
+)
+    requires { ⌜ Joins (now words) (now halves) (now bytes) (length (now store)) end (length (now body)) ⌝ }
+    ensures { λ _. ⌜ Joined number kind (now (body .entry)) (now (words .entry)) (now (halves .entry)) (now (bytes .entry)) (now (store .entry)) (now (words .exit)) (now (halves .exit)) (now (bytes .exit)) (now (store .exit)) ⌝ }
+{
+    stores::copy_in(store, end, body);
+    let count = words[parts::QUEUED];
+    let n = count as usize;
+    words[parts::QUEUED_NUMBERS + n] = number;
+    words[parts::QUEUED] = count + 1;
+    halves[parts::QUEUED_LENS + n] = body.len() as u32;
+    bytes[parts::QUEUED_KINDS + n] = kind;
+}
+
+// A number above all acks that wait is delivered.
+fn confirm(words: &mut Words, halves: &mut Halves, number: u64)
+    requires { ⌜ Confirms (now words) (now halves) ⌝ }
+    ensures { λ _. ⌜ Confirmed number (now (words .entry)) (now (halves .entry)) (now (words .exit)) (now (halves .exit)) ⌝ }
+{
+    let count = words[parts::WAITING];
+    let n = count as usize;
+    words[parts::WAITING_NUMBERS + n] = number;
+    words[parts::WAITING] = count + 1;
+    words[parts::REMOTE] = number;
+    let generation = halves[parts::GENERATION];
+    halves[parts::GENERATION] = generation + 1;
+}

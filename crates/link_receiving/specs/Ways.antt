@@ -1,0 +1,48 @@
+-- Data that is done in place, and what must hold for it. Assumes nothing.
+use Prim.Native.Nat.{ℕ, _+_, _-_, _≤_, _<_}
+use mathlib.Core.Path.{_≡_}
+use mathlib.Core.Bool.{Bool, true, false}
+use mathlib.Core.List.{List}
+use lib.Ieee.{Float}
+use lib.ListN.{length}
+use Rattle.rules.specs.declared.HostStatus.{HostStatus}
+use Rattle.rules.specs.declared.ReceiveMode.the-variants.{Raw}
+use Rattle.rules.specs.Lists.{Bytes}
+use Rattle.rules.specs.State.{Frame}
+use Rattle.queue.specs.View.{endQ}
+use Rattle.peer_session.specs.declared.SessionState.{SessionState}
+use Rattle.draining.specs.Arrived.{Arrived}
+use Rattle.parts.specs.Parts.{parts, at, queueIn, openedOf}
+
+-- new data in Raw mode, past the checks
+pub record Fresh (f : Frame) (s : SessionState) : Type 0 where
+  pub kind : f .kind ≤ 2
+  pub raw : s .stage .mode ≡ Raw
+  pub short : length (f .body) ≤ s .policy .body
+  pub new : s .remote < f .number
+  pub last : f .number ≤ 18446744073709551614
+  pub near : f .number - (s .remote + 1) ≤ s .policy .gap
+  pub free : s .waiting .count + s .queue .count < 512
+
+-- of the parts
+pub record Data (f : Frame) (w h b : List ℕ) (t : Float) (l : List ℕ) (d o q : Bytes) : Type 0 where
+  pub arrived : Arrived (openedOf (parts w h b t)) l d o q
+  pub fresh : Fresh f (openedOf (parts w h b t))
+  pub words : length w ≡ 1296
+  pub halves : length h ≡ 772
+  pub bytes : length b ≡ 4936
+
+-- the host is there, it is the next one, and none is queued
+pub record Now (status : HostStatus) (number : ℕ) (w : List ℕ) : Type 0 where
+  pub there : status .available ≡ true
+  pub next : number ≡ at w 2 + 1
+  pub alone : at w 4 ≡ 0
+
+-- it is not the next one, nor is the first that is queued, or the host is not there; and it comes after all that are queued, within the policy
+pub record Later (status : HostStatus) (number len : ℕ) (w h b : List ℕ) (end : ℕ) : Type 0 where
+  pub ahead : status .available ≡ true → number ≡ at w 2 + 1 → ⊥
+  pub still : status .available ≡ true → 0 < at w 4 → at w 16 ≡ at w 2 + 1 → ⊥
+  pub top : 0 < at w 4 → at w (15 + at w 4) < number
+  pub few : at w 4 + 1 ≤ at w 11
+  pub short : end + len ≤ at w 12
+  pub is : end ≡ endQ (queueIn w h b)
