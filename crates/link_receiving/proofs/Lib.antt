@@ -4,3 +4,4 @@ pub mod Calls
 pub mod Queues
 pub mod Opens
 pub mod Sums
+pub mod Drives
