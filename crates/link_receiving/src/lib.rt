@@ -96,3 +96,57 @@ fn confirm(words: &mut Words, halves: &mut Halves, number: u64)
     let generation = halves[parts::GENERATION];
     halves[parts::GENERATION] = generation + 1;
 }
+
+// ---- the two ways
+
+// Data that is delivered: the host is there, and nothing is queued.
+fn deliver(
+    words: &mut Words,
+    halves: &mut Halves,
+    bytes: &Bytes,
+    clock: &f64,
+    list: &mut [u64],
+    delivery: &mut [u8],
+    outbound: &[u8],
+    queue: &[u8],
+    status: HostStatus,
+    number: u64,
+    kind: u64,
+    body: &[u8],
+) -> LinkAnswer
+    requires { ⌜ (Data (frameOf number kind (now body)) (now words) (now halves) (now bytes) (now clock) (now list) (now delivery) (now outbound) (now queue)) × Now status number (now words) ⌝ }
+    ensures { λ x. ⌜ Driven (parts (now (words .entry)) (now (halves .entry)) (now (bytes .entry)) (now (clock .entry))) (parts (now (words .exit)) (now (halves .exit)) (now (bytes .entry)) (now (clock .entry))) x (λ s y. Called (gets-data status (frameOf number kind (now (body .entry)))) s (lent (now (list .entry)) (now (delivery .entry)) (now (outbound .entry)) (now (queue .entry))) y (lent (now (list .exit)) (now (delivery .exit)) (now (outbound .entry)) (now (queue .entry)))) ⌝ }
+{
+    stores::copy_in(delivery, 0, body);
+    events::emit(list, 0, 2, number, 0, body.len() as u64);
+    confirm(words, halves, number);
+    let c = clock_of(halves, clock);
+    let k = events::request(c, list, 1);
+    let n = events::request(c, list, k);
+    taken(n)
+}
+
+// Data that joins the queue, from which nothing is delivered.
+fn enqueue(
+    words: &mut Words,
+    halves: &mut Halves,
+    bytes: &mut Bytes,
+    clock: &f64,
+    list: &mut [u64],
+    delivery: &[u8],
+    outbound: &[u8],
+    queue: &mut [u8],
+    end: usize,
+    status: HostStatus,
+    number: u64,
+    kind: u8,
+    body: &[u8],
+) -> LinkAnswer
+    requires { ⌜ (Data (frameOf number kind (now body)) (now words) (now halves) (now bytes) (now clock) (now list) (now delivery) (now outbound) (now queue)) × Later status number (length (now body)) (now words) (now halves) (now bytes) end ⌝ }
+    ensures { λ x. ⌜ Driven (parts (now (words .entry)) (now (halves .entry)) (now (bytes .entry)) (now (clock .entry))) (parts (now (words .exit)) (now (halves .exit)) (now (bytes .exit)) (now (clock .entry))) x (λ s y. Called (gets-data status (frameOf number kind (now (body .entry)))) s (lent (now (list .entry)) (now (delivery .entry)) (now (outbound .entry)) (now (queue .entry))) y (lent (now (list .exit)) (now (delivery .entry)) (now (outbound .entry)) (now (queue .exit)))) ⌝ }
+{
+    let c = clock_of(halves, clock);
+    join(words, halves, bytes, queue, end, number, kind, body);
+    let n = events::request(c, list, 0);
+    taken(n)
+}
