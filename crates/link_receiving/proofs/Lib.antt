@@ -5,3 +5,4 @@ pub mod Queues
 pub mod Opens
 pub mod Sums
 pub mod Drives
+pub mod Ways

@@ -46,3 +46,30 @@ pub record Later (status : HostStatus) (number len : ℕ) (w h b : List ℕ) (en
   pub few : at w 4 + 1 ≤ at w 11
   pub short : end + len ≤ at w 12
   pub is : end ≡ endQ (queueIn w h b)
+
+-- ---- the tests
+
+-- the buffers are long enough, and the kind is known
+pub record Reached (l d o q k : ℕ) : Type 0 where
+  pub list : 4096 ≤ l
+  pub delivery : 49152 ≤ d
+  pub outbound : 65536 ≤ o
+  pub queue : 32768 ≤ q
+  pub kind : k ≤ 2
+
+pub record Tests (w h b : List ℕ) (number len : ℕ) : Type 0 where
+  pub low : at h 768 < 4294966000
+  pub raw : at b 771 ≡ 0
+  pub short : len ≤ at w 13
+  pub new : at w 2 < number
+  pub last : number ≤ 18446744073709551614
+  pub near : number - (at w 2 + 1) ≤ at w 10
+  pub free : at w 5 + at w 4 < 512
+
+pub record Waits (status : HostStatus) (number : ℕ) (w : List ℕ) : Type 0 where
+  pub ahead : status .available ≡ true → number ≡ at w 2 + 1 → ⊥
+  pub still : status .available ≡ true → 0 < at w 4 → at w 16 ≡ at w 2 + 1 → ⊥
+
+-- what an answer of true says
+abbrev pub Tells : Bool → Type 0 → Type 0
+Tells r A = r ≡ true → A

@@ -8,14 +8,15 @@ ghost use Rattle.rules.specs.Calls.{gets-data};
 ghost use Rattle.session.specs.Promise.{lent, Called};
 ghost use Rattle.delivery.specs.Turns.{frameOf};
 ghost use Rattle.parts.specs.Codes.{answerOf};
-ghost use Rattle.parts.specs.Parts.{parts, clockIn};
+ghost use Rattle.parts.specs.Parts.{parts, at, clockIn};
 ghost use Rattle.parts.specs.Driven.{Driven};
 ghost use Rattle.link_receiving.specs.Steps.{bodies, Summing, Joins, Joined, Confirms, Confirmed};
-ghost use Rattle.link_receiving.specs.Ways.{Data, Now, Later};
+ghost use Rattle.link_receiving.specs.Ways.{Data, Now, Later, Reached, Tests, Waits, Tells};
 use parts::Bytes;
 use parts::Halves;
 use parts::LinkAnswer;
 use parts::Words;
+use peer_session::SessionState;
 use rules::Clock;
 use rules::HostStatus;
 
@@ -149,4 +150,99 @@ fn enqueue(
     join(words, halves, bytes, queue, end, number, kind, body);
     let n = events::request(c, list, 0);
     taken(n)
+}
+
+// ---- which way
+
+// Whether the buffers are long enough, and the kind is known.
+fn reaches(list: usize, delivery: usize, outbound: usize, queue: usize, kind: u64) -> bool
+    ensures { λ r. ⌜ Tells r (Reached list delivery outbound queue kind) ⌝ }
+{
+    if list < SessionState::EVENT_WORDS {
+        return false;
+    }
+    if delivery < SessionState::DELIVERY_BYTES {
+        return false;
+    }
+    if outbound < SessionState::OUTBOUND_BYTES {
+        return false;
+    }
+    if queue < SessionState::QUEUE_BYTES {
+        return false;
+    }
+    kind <= 2
+}
+
+// Whether it is new data, in Raw mode, that the checks let pass; the acks that wait and the frames in the queue are below 512 together.
+fn fresh(words: &Words, halves: &Halves, bytes: &Bytes, number: u64, len: usize) -> bool
+    ensures { λ r. ⌜ Tells r (Tests (now (words .entry)) (now (halves .entry)) (now (bytes .entry)) number len) ⌝ }
+{
+    if SessionState::GENERATION_LIMIT <= halves[parts::GENERATION] {
+        return false;
+    }
+    if bytes[parts::MODE] != 0 {
+        return false;
+    }
+    if words[parts::POLICY_BODY] < len as u64 {
+        return false;
+    }
+    let remote = words[parts::REMOTE];
+    if number <= remote {
+        return false;
+    }
+    if SessionState::LAST_REMOTE < number {
+        return false;
+    }
+    if words[parts::POLICY_GAP] < number - (remote + 1) {
+        return false;
+    }
+    let queued = words[parts::QUEUED];
+    if 512 <= queued {
+        return false;
+    }
+    words[parts::WAITING] < 512 - queued
+}
+
+// Whether it is delivered: it is the next one, the host is there, and nothing is queued.
+fn at_once(words: &Words, status: HostStatus, number: u64) -> bool
+    requires { ⌜ at (now words) 2 < number ⌝ }
+    ensures { λ r. ⌜ Tells r (Now status number (now (words .entry))) ⌝ }
+{
+    if !status.available {
+        return false;
+    }
+    if number != words[parts::REMOTE] + 1 {
+        return false;
+    }
+    words[parts::QUEUED] == 0
+}
+
+// Whether a number comes after all that are queued.
+fn above(words: &Words, number: u64) -> bool
+    requires { ⌜ at (now words) 4 ≤ 256 ⌝ }
+    ensures { λ r. ⌜ Tells r (0 < at (now (words .entry)) 4 → at (now (words .entry)) (15 + at (now (words .entry)) 4) < number) ⌝ }
+{
+    let n = words[parts::QUEUED] as usize;
+    if n == 0 {
+        return true;
+    }
+    words[parts::QUEUED_NUMBERS - 1 + n] < number
+}
+
+// Whether nothing is delivered once it is queued: the host is not there, or neither it nor the first that is queued is the next one.
+fn waits(words: &Words, status: HostStatus, number: u64) -> bool
+    requires { ⌜ at (now words) 2 < number ⌝ }
+    ensures { λ r. ⌜ Tells r (Waits status number (now (words .entry))) ⌝ }
+{
+    if !status.available {
+        return true;
+    }
+    let next = words[parts::REMOTE] + 1;
+    if number == next {
+        return false;
+    }
+    if words[parts::QUEUED] == 0 {
+        return true;
+    }
+    words[parts::QUEUED_NUMBERS] != next
 }
