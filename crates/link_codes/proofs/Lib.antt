@@ -1,3 +1,6 @@
 -- The laws of link_codes.
-pub mod Codes
-pub mod Back
+pub mod Enums
+pub mod Seating
+pub mod Opening
+pub mod Filling
+pub mod Storing

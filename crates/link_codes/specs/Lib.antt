@@ -1,2 +1,2 @@
 -- The definitions that the contracts of `link_codes` cite.
-pub mod Codes
+pub mod Stored

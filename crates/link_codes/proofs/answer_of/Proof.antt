@@ -1,8 +1,8 @@
 use mathlib.Core.Path.{_≡_, refl, ap, _∙_}
 use Prim.Native.Nat.{ℕ}
-use Rattle.link_codes.specs.declared.LinkAnswer.{LinkAnswer}
-use Rattle.link_codes.specs.Codes.{handed}
-use Rattle.link_codes.proofs.Codes.{told-as}
+use Rattle.parts.specs.declared.LinkAnswer.{LinkAnswer}
+use Rattle.parts.specs.Codes.{handed}
+use Rattle.link_codes.proofs.Enums.{told-as}
 use borrow.Author.Needs.{needs}
 use Rattle.link_codes.proofs.answer_of.Statement.{statement}
 use Rattle.link_codes.proofs.answer_of.Tie as tie

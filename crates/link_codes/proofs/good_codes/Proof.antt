@@ -1,4 +1,4 @@
-use Rattle.link_codes.proofs.Codes.{bad-setup, bad-mode, waits, bad-initiator, terms-decide}
+use Rattle.link_codes.proofs.Enums.{bad-setup, bad-mode, waits, bad-initiator, terms-decide}
 use borrow.Author.Needs.{needs}
 use Rattle.link_codes.proofs.good_codes.Statement.{statement}
 use Rattle.link_codes.proofs.good_codes.Tie as tie

@@ -1,4 +1,4 @@
-use Rattle.link_codes.proofs.Codes.{mode-raw, mode-proposal, mode-channel, mode-rejection, mode-retiring}
+use Rattle.link_codes.proofs.Enums.{mode-raw, mode-proposal, mode-channel, mode-rejection, mode-retiring}
 use borrow.Author.Needs.{needs}
 use Rattle.link_codes.proofs.mode_of.Statement.{statement}
 use Rattle.link_codes.proofs.mode_of.Tie as tie

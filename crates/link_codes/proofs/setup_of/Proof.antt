@@ -1,4 +1,4 @@
-use Rattle.link_codes.proofs.Codes.{setup-waiting, setup-started, setup-retired, setup-none}
+use Rattle.link_codes.proofs.Enums.{setup-waiting, setup-started, setup-retired, setup-none}
 use borrow.Author.Needs.{needs}
 use Rattle.link_codes.proofs.setup_of.Statement.{statement}
 use Rattle.link_codes.proofs.setup_of.Tie as tie

@@ -1,4 +1,4 @@
-use Rattle.link_codes.proofs.Codes.{stage-coded}
+use Rattle.link_codes.proofs.Enums.{stage-coded}
 use borrow.Author.Needs.{needs}
 use Rattle.link_codes.proofs.stage_codes.Statement.{statement}
 use Rattle.link_codes.proofs.stage_codes.Tie as tie

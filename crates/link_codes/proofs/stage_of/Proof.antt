@@ -1,6 +1,6 @@
 use mathlib.Core.Path.{sym, _∙_}
 use borrow.Author.Tests.{not-true, not-false}
-use Rattle.link_codes.proofs.Codes.{stage-bad, stage-good}
+use Rattle.link_codes.proofs.Enums.{stage-bad, stage-good}
 use borrow.Author.Needs.{needs}
 use Rattle.link_codes.proofs.stage_of.Statement.{statement}
 use Rattle.link_codes.proofs.stage_of.Tie as tie

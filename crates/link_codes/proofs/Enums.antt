@@ -13,17 +13,13 @@ use Rattle.rules.specs.declared.ReceiveMode.the-variants.{Raw, Proposal, Channe
 use Rattle.rules.specs.Lists.{if_then_else_}
 use Rattle.rules.specs.Receiving.{mode-of}
 use Rattle.peer_session.specs.declared.Stage.{Stage}
-use Rattle.peer_session.specs.declared.SessionState.{SessionState}
-use Rattle.session.specs.declared.Returned.{Returned}
-use Rattle.link_codes.specs.declared.LinkStage.{LinkStage}
-use Rattle.link_codes.specs.declared.LinkSession.{LinkSession}
-use Rattle.link_codes.specs.declared.LinkAnswer.{LinkAnswer}
-use Rattle.link_codes.specs.declared.LinkReturned.{LinkReturned}
-use Rattle.link_codes.specs.Codes.{good-codes, setupOf, bad-stage, good-stage, stageOf, openedOf, setup-code, terms-number, terms-initiator, mode-code, stage-codes, sessionOf, handed, answerOf, closedOf, begunOf}
+use Rattle.parts.specs.declared.StageCodes.{StageCodes}
+use Rattle.parts.specs.declared.LinkAnswer.{LinkAnswer}
+use Rattle.parts.specs.Codes.{good-codes, setupOf, bad-stage, good-stage, stageOf, setup-code, terms-number, terms-initiator, mode-code, stage-codes, handed, answerOf}
 
 -- ---- tests
 
-module _ (g : LinkStage) where
+module _ (g : StageCodes) where
   pub bad-setup : 3 < g .setup → false ≡ good-codes g
   bad-setup h = rw (lt-leb (g .setup) 3 h)
 
@@ -77,7 +73,7 @@ module _ (n : ℕ) (a : n ≡ 0 → ⊥) where
 
 -- ---- stages
 
-module _ (g : LinkStage) where
+module _ (g : StageCodes) where
   pub stage-bad : good-codes g ≡ false → bad-stage g ≡ stageOf g
   stage-bad e = rw e
 
@@ -89,43 +85,11 @@ module _ (g : LinkStage) where
       ∙ rw e
 
 pub stage-coded : (g : Stage) {n s m : ℕ} {i : Bool} → n ≡ terms-number (g .setup) → s ≡ setup-code (g .setup) → i ≡ terms-initiator (g .setup) → m ≡ mode-code (g .mode)
-    → _≡_ {A = LinkStage} (record { terms = n; disposition = g .disposition; setup = s; initiator = i; mode = m; failed = g .failed }) (stage-codes g)
+    → _≡_ {A = StageCodes} (record { terms = n; disposition = g .disposition; setup = s; initiator = i; mode = m; failed = g .failed }) (stage-codes g)
 stage-coded g a b c d = cc
-
-pub disposition-good : (g : LinkStage) → good-codes g ≡ true → g .disposition ≡ stageOf g .disposition
-disposition-good g e = rw e
-
-pub disposition-bad : (g : LinkStage) → good-codes g ≡ false → 255 ≡ stageOf g .disposition
-disposition-bad g e = rw e
-
--- ---- sessions
-
-pub with-stage : (c : LinkSession) {g : Stage} → g ≡ stageOf (c .stage)
-    → _≡_ {A = SessionState} (record { outbox = c .outbox; remote = c .remote; released = c .released; queue = c .queue; waiting = c .waiting; retry = c .retry; clock = c .clock; stage = g; handoff = c .handoff; policy = c .policy; reject = c .reject }) (openedOf c)
-with-stage c e = ap (λ (g : Stage). record { outbox = c .outbox; remote = c .remote; released = c .released; queue = c .queue; waiting = c .waiting; retry = c .retry; clock = c .clock; stage = g; handoff = c .handoff; policy = c .policy; reject = c .reject }) e
-
-pub with-codes : (s : SessionState) {g : LinkStage} → g ≡ stage-codes (s .stage)
-    → _≡_ {A = LinkSession} (record { outbox = s .outbox; remote = s .remote; released = s .released; queue = s .queue; waiting = s .waiting; retry = s .retry; clock = s .clock; stage = g; handoff = s .handoff; policy = s .policy; reject = s .reject }) (sessionOf s)
-with-codes s e = ap (λ (g : LinkStage). record { outbox = s .outbox; remote = s .remote; released = s .released; queue = s .queue; waiting = s .waiting; retry = s .retry; clock = s .clock; stage = g; handoff = s .handoff; policy = s .policy; reject = s .reject }) e
 
 -- ---- answers
 
 -- what the match found
 pub told-as : (n : ℕ) {x : LinkAnswer} {a b : Answer} → x ≡ answerOf b n → a ≡ b → x ≡ answerOf a n
 told-as n e h = e ∙ sym (ap (λ (a : Answer). answerOf a n) h)
-
--- ---- what is handed back
-
-module _ (c : LinkSession) (r : Returned) {a : LinkAnswer} (answers : a ≡ answerOf (r .answer) (r .events)) where
-  pub closes-bad : good-codes (c .stage) ≡ false → _≡_ {A = LinkReturned} (record { session = c; answer = a }) (closedOf c r)
-  closes-bad e = ap (λ (x : LinkAnswer). record { session = c; answer = x }) answers ∙ rw e
-
-  pub closes-good : good-codes (c .stage) ≡ true → {s : LinkSession} → s ≡ sessionOf (r .session) → _≡_ {A = LinkReturned} (record { session = s; answer = a }) (closedOf c r)
-  closes-good e {s} h =
-      ap (λ (x : LinkAnswer). record { session = s; answer = x }) answers
-      ∙ ap (λ (x : LinkSession). record { session = x; answer = answerOf (r .answer) (r .events) }) h
-      ∙ rw e
-
-pub begins : (r : Returned) {a : LinkAnswer} {s : LinkSession} → a ≡ answerOf (r .answer) (r .events) → s ≡ sessionOf (r .session)
-    → _≡_ {A = LinkReturned} (record { session = s; answer = a }) (begunOf r)
-begins r {a} {s} e h = ap (λ (x : LinkAnswer). record { session = s; answer = x }) e ∙ ap (λ (x : LinkSession). record { session = x; answer = answerOf (r .answer) (r .events) }) h
