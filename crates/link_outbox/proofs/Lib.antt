@@ -1,0 +1,2 @@
+-- Laws on the unacked messages of a lent session.
+pub mod Sounds

@@ -1,0 +1,2 @@
+-- Laws on the check of a session in place.
+pub mod Sounds
