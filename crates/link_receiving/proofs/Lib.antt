@@ -6,3 +6,4 @@ pub mod Opens
 pub mod Sums
 pub mod Drives
 pub mod Ways
+pub mod Values

@@ -246,3 +246,44 @@ fn waits(words: &Words, status: HostStatus, number: u64) -> bool
     }
     words[parts::QUEUED_NUMBERS] != next
 }
+
+// ---- by value
+
+// The driver's call on the session that the parts are. One that no calls leave is not stored: what it is refused by changes nothing.
+fn by_value(
+    words: &mut Words,
+    halves: &mut Halves,
+    bytes: &mut Bytes,
+    clock: &mut f64,
+    list: &mut [u64],
+    delivery: &mut [u8],
+    outbound: &mut [u8],
+    queue: &mut [u8],
+    status: HostStatus,
+    number: u64,
+    kind: u64,
+    body: &[u8],
+) -> LinkAnswer
+    ensures { λ x. ⌜ Driven (parts (now (words .entry)) (now (halves .entry)) (now (bytes .entry)) (now (clock .entry))) (parts (now (words .exit)) (now (halves .exit)) (now (bytes .exit)) (now (clock .exit))) x (λ s y. Called (gets-data status (frameOf number kind (now (body .entry)))) s (lent (now (list .entry)) (now (delivery .entry)) (now (outbound .entry)) (now (queue .entry))) y (lent (now (list .exit)) (now (delivery .exit)) (now (outbound .exit)) (now (queue .exit)))) ⌝ }
+{
+    let s = link_codes::opened(words, halves, bytes, clock);
+    let sound = peer_session::sound(s);
+    let r = receiving::receive_data(
+        s,
+        list,
+        delivery,
+        outbound,
+        queue,
+        status,
+        number,
+        kind,
+        body,
+    );
+    let answer = r.answer;
+    if !sound {
+        return link_codes::answer_of(answer, r.events);
+    }
+    let left = r.session;
+    link_codes::store(words, halves, bytes, clock, left);
+    link_codes::answer_of(answer, r.events)
+}
