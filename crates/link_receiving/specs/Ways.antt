@@ -11,8 +11,11 @@ use Rattle.rules.specs.Lists.{Bytes}
 use Rattle.rules.specs.State.{Frame}
 use Rattle.queue.specs.View.{endQ}
 use Rattle.peer_session.specs.declared.SessionState.{SessionState}
+use Rattle.peer_session.specs.Sound.{Checked}
 use Rattle.draining.specs.Arrived.{Arrived}
 use Rattle.parts.specs.Parts.{parts, at, queueIn, openedOf}
+use Rattle.link_receiving.specs.declared.Way.{Way}
+use Rattle.link_receiving.specs.declared.Way.the-variants.{Deliver, Enqueue, Other}
 
 -- new data in Raw mode, past the checks
 pub record Fresh (f : Frame) (s : SessionState) : Type 0 where
@@ -73,3 +76,18 @@ pub record Waits (status : HostStatus) (number : ℕ) (w : List ℕ) : Type 0 wh
 -- what an answer of true says
 abbrev pub Tells : Bool → Type 0 → Type 0
 Tells r A = r ≡ true → A
+
+-- ---- the choice
+
+-- a session that calls leave, and data that passes the tests
+pub record Passed (w h b : List ℕ) (number len : ℕ) : Type 0 where
+  pub sound : (t : Float) → Checked (openedOf (parts w h b t)) true
+  pub tests : Tests w h b number len
+  pub words : length w ≡ 1296
+  pub halves : length h ≡ 772
+  pub bytes : length b ≡ 4936
+
+-- by the other way nothing has to hold
+pub record Chosen (enough : Bool) (w h b : List ℕ) (status : HostStatus) (number len : ℕ) (r : Way) : Type 0 where
+  pub delivers : r ≡ Deliver → (enough ≡ true) × (Passed w h b number len × Now status number w)
+  pub enqueues : (end : ℕ) → r ≡ Enqueue end → (enough ≡ true) × (Passed w h b number len × Later status number len w h b end)

@@ -11,7 +11,7 @@ ghost use Rattle.parts.specs.Codes.{answerOf};
 ghost use Rattle.parts.specs.Parts.{parts, at, clockIn};
 ghost use Rattle.parts.specs.Driven.{Driven};
 ghost use Rattle.link_receiving.specs.Steps.{bodies, Summing, Joins, Joined, Confirms, Confirmed};
-ghost use Rattle.link_receiving.specs.Ways.{Data, Now, Later, Reached, Tests, Waits, Tells};
+ghost use Rattle.link_receiving.specs.Ways.{Data, Now, Later, Reached, Tests, Waits, Tells, Chosen};
 use parts::Bytes;
 use parts::Halves;
 use parts::LinkAnswer;
@@ -19,6 +19,15 @@ use parts::Words;
 use peer_session::SessionState;
 use rules::Clock;
 use rules::HostStatus;
+
+// What becomes of data.
+pub enum Way {
+    Deliver,
+    // at this index of the queue store
+    Enqueue(usize),
+    // by value
+    Other,
+}
 
 // ---- what is written
 
@@ -247,6 +256,56 @@ fn waits(words: &Words, status: HostStatus, number: u64) -> bool
     words[parts::QUEUED_NUMBERS] != next
 }
 
+// An array that is lent has its length.
+fn full(words: &Words, halves: &Halves, bytes: &Bytes)
+    ensures { λ _. ⌜ (length (now (words .entry)) ≡ 1296) × (length (now (halves .entry)) ≡ 772) × (length (now (bytes .entry)) ≡ 4936) ⌝ }
+{
+    let w: &[u64] = words;
+    let h: &[u32] = halves;
+    let b: &[u8] = bytes;
+}
+
+fn choose(
+    words: &Words,
+    halves: &Halves,
+    bytes: &Bytes,
+    enough: bool,
+    status: HostStatus,
+    number: u64,
+    len: usize,
+) -> Way
+    ensures { λ r. ⌜ Chosen enough (now (words .entry)) (now (halves .entry)) (now (bytes .entry)) status number len r ⌝ }
+{
+    full(words, halves, bytes);
+    if !enough {
+        return Way::Other;
+    }
+    if !fresh(words, halves, bytes, number, len) {
+        return Way::Other;
+    }
+    if !link_sound::sound(words, halves, bytes) {
+        return Way::Other;
+    }
+    if at_once(words, status, number) {
+        return Way::Deliver;
+    }
+    if !waits(words, status, number) {
+        return Way::Other;
+    }
+    if !above(words, number) {
+        return Way::Other;
+    }
+    let count = words[parts::QUEUED];
+    if words[parts::POLICY_MESSAGES] < count + 1 {
+        return Way::Other;
+    }
+    let end = used(halves, count as usize);
+    if words[parts::POLICY_BYTES] < (end + len) as u64 {
+        return Way::Other;
+    }
+    Way::Enqueue(end)
+}
+
 // ---- by value
 
 // The driver's call on the session that the parts are. One that no calls leave is not stored: what it is refused by changes nothing.
@@ -286,4 +345,76 @@ fn by_value(
     let left = r.session;
     link_codes::store(words, halves, bytes, clock, left);
     link_codes::answer_of(answer, r.events)
+}
+
+// The Rust's `receive_data` for C.
+pub fn data(
+    words: &mut Words,
+    halves: &mut Halves,
+    bytes: &mut Bytes,
+    clock: &mut f64,
+    list: &mut [u64],
+    delivery: &mut [u8],
+    outbound: &mut [u8],
+    queue: &mut [u8],
+    status: HostStatus,
+    number: u64,
+    kind: u64,
+    body: &[u8],
+) -> LinkAnswer
+    ensures { λ x. ⌜ Driven (parts (now (words .entry)) (now (halves .entry)) (now (bytes .entry)) (now (clock .entry))) (parts (now (words .exit)) (now (halves .exit)) (now (bytes .exit)) (now (clock .exit))) x (λ s y. Called (gets-data status (frameOf number kind (now (body .entry)))) s (lent (now (list .entry)) (now (delivery .entry)) (now (outbound .entry)) (now (queue .entry))) y (lent (now (list .exit)) (now (delivery .exit)) (now (outbound .exit)) (now (queue .exit)))) ⌝ }
+{
+    let enough = reaches(
+        list.len(),
+        delivery.len(),
+        outbound.len(),
+        queue.len(),
+        kind,
+    );
+    let way = choose(words, halves, bytes, enough, status, number, body.len());
+    match way {
+        Way::Deliver => deliver(
+            words,
+            halves,
+            bytes,
+            clock,
+            list,
+            delivery,
+            outbound,
+            queue,
+            status,
+            number,
+            kind,
+            body,
+        ),
+        Way::Enqueue(end) => enqueue(
+            words,
+            halves,
+            bytes,
+            clock,
+            list,
+            delivery,
+            outbound,
+            queue,
+            end,
+            status,
+            number,
+            kind as u8,
+            body,
+        ),
+        Way::Other => by_value(
+            words,
+            halves,
+            bytes,
+            clock,
+            list,
+            delivery,
+            outbound,
+            queue,
+            status,
+            number,
+            kind,
+            body,
+        ),
+    }
 }
