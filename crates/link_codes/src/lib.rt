@@ -244,7 +244,7 @@ fn policy_in(words: &Words) -> Policy
     }
 }
 
-fn clock_in(halves: &Halves, clock: &f64) -> Clock
+pub fn clock_in(halves: &Halves, clock: &f64) -> Clock
     ensures { λ r. ⌜ r ≡ clockIn (now (halves .entry)) (now (clock .entry)) ⌝ }
 {
     Clock {
