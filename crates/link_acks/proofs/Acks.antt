@@ -1,7 +1,7 @@
 -- An ack on the parts of a session, done in place. Assumes nothing.
 use Prim.Native.Nat.{ℕ, _+_, _-_, _≤_, _<_}
 use mathlib.Core.Path.{_≡_, refl, sym, ap, _∙_, subst}
-use mathlib.Core.Bool.{Bool, true, false, _&&_, _||_}
+use mathlib.Core.Bool.{Bool, true, false, not, _&&_, _||_, true≢false}
 use mathlib.Core.List.{List}
 use native.Mathlib.Omega.{arith}
 use lib.Ieee.{Float}
@@ -23,7 +23,6 @@ use Rattle.events.specs.declared.Stop.{Stop}
 use Rattle.events.specs.declared.Stop.the-variants.{No, By}
 use Rattle.events.specs.Written.{Listed, asked}
 use Rattle.outbox.specs.View.{unackedOf, ExactOutbox}
-use Rattle.outbox.specs.Steps.{Left}
 use Rattle.peer_session.specs.declared.Stage.{Stage}
 use Rattle.peer_session.specs.declared.SessionState.{SessionState}
 use Rattle.peer_session.specs.declared.TerminalHandoff.{TerminalHandoff}
@@ -44,6 +43,7 @@ use Rattle.parts.specs.Driven.{Driven}
 use Rattle.parts.proofs.Fields.{Agree, agree-past, agree-set, agree-then, outbox-same, numbers-same, section-same}
 use Rattle.parts.proofs.After.{Kept, other, after, agree-all}
 use Rattle.parts.proofs.Drives.{changes, refuses}
+use Rattle.link_outbox.specs.Steps.{Drops}
 use Rattle.link_sound.proofs.Parts.{Usable, usable}
 use Rattle.link_acks.specs.Acks.{AckReady, AckTurns, AckFound, Plain, raisedIf}
 use Rattle.link_acks.proofs.Lengths.{bytes-long}
@@ -60,6 +60,18 @@ module _ (g : StageCodes) where
 
   other-disposition : (g .disposition ≡ 4 → ⊥) → stageOf g .disposition ≡ 4 → ⊥
   other-disposition h = either (λ (s : Stage). s .disposition ≡ 4 → ⊥) (good-codes g) (good-stage g) (bad-stage g) h (λ e. omega (arith, e))
+
+-- ---- small steps
+
+module _ (a b g : ℕ) where
+  pub raised-not : a ≡ b → g ≡ raisedIf (eqb a b) g
+  raised-not e = rw (eq-eqb a b e)
+
+  pub raised-one : (a ≡ b → ⊥) → g + 1 ≡ raisedIf (eqb a b) g
+  raised-one e = rw (ne-eqb a b e)
+
+pub not-four : (x : ℕ) → not (eqb x 4) ≡ true → x ≡ 4 → ⊥
+not-four x e f = true≢false (sym (rw (eq-eqb x 4 f) at e))
 
 -- ---- what is left
 
@@ -151,23 +163,31 @@ module _ (w h b : List ℕ) (t : Float) (l : List ℕ) (o : Bytes) (number : ℕ
   pub messages-exact : ExactOutbox (outboxIn w h b) (length o)
   messages-exact = used .unacked o (ready .outbound)
 
-  module _ (w′ h′ b′ : List ℕ) (o′ : Bytes) (left : Left (outboxIn w h b) o (kept (survives number) (unackedOf (outboxIn w h b) o)) (outboxIn w′ h′ b′) o′)
-      (k : ℕ) (words : w′ ≡ set w 1 k) (halves : Past 512 h h′) (bytes : Past 512 b b′) (g f : ℕ) (raised : g ≡ raisedIf (eqb (at w′ 1) (at w 1)) (at h 768))
+  module _ {w′ h′ b′ : List ℕ} {o′ : Bytes} (d : Drops number w h b o w′ h′ b′ o′) (g f : ℕ) (raised : g ≡ raisedIf (eqb (at w′ 1) (at w 1)) (at h 768))
       (flagged : flag f ≡ (flag (at b 774) || (flag (at b 773) && leb (at w 9) number))) where
-    pub went : Plain w b number → {l₁ l₂ : List ℕ} {n₁ n : ℕ} → Listed (asked (clockIn (set h′ 768 g) t)) l 0 l₁ n₁ → Listed (notices number false true) l₁ n₁ l₂ n
-        → {y : LinkAnswer} → y ≡ answerOf (Flag true) n → (q : Bytes) → 32768 ≤ length q
+    -- how many are left
+    abbrev k : ℕ
+    k = length (kept (survives number) (unackedOf (outboxIn w h b) o))
+
+    dates : {c : Clock} → c ≡ clockIn (set h′ 768 g) t → c ≡ record { «last_replay_at» = t; generation = g; released = at h 769; persisted = at h 770 }
+    dates e =
+        e
+        ∙ clock-dated w h b t (ready .halves) (used .words) (bytes-long w h b t (ready .full)) w′ h′ b′ k (d .words) (d .halves) (d .bytes) g f
+
+    pub went : Plain w b number → {c : Clock} {l₁ l₂ : List ℕ} {n₁ n : ℕ} → c ≡ clockIn (set h′ 768 g) t → Listed (asked c) l 0 l₁ n₁
+        → Listed (notices number false true) l₁ n₁ l₂ n → {y : LinkAnswer} → y ≡ answerOf (Flag true) n → (q : Bytes) → 32768 ≤ length q
         → Driven (parts w h b t) (parts w′ (set h′ 768 g) (set b′ 774 f) t) y (λ s r. CalledWithStores (gets-ack number) s l o q r l₂ o′ q)
     unfolding openedOf
-    went plain {l₁} {l₂} {n₁} {n} li lj e q lq =
+    went plain {c} {l₁} {l₂} {n₁} {n} ec li lj e q lq =
         changes (parts w h b t) (ready .sound) (parts w′ (set h′ 768 g) (set b′ 774 f) t) _
-        (ack-leaves w h b t (ready .halves) (used .words) (bytes-long w h b t (ready .full)) w′ h′ b′ k words halves bytes g f)
-        (Flag true) n e
-        (λ d. A.goes number (openedOf (parts w h b t)) l o q d (ready .list) (ready .outbound) lq (ready .sound) (ready .full) (ready .low)
+        (ack-leaves w h b t (ready .halves) (used .words) (bytes-long w h b t (ready .full)) w′ h′ b′ k (d .words) (d .halves) (d .bytes) g f) (Flag true) n e
+        (λ v. A.goes number (openedOf (parts w h b t)) l o q v (ready .list) (ready .outbound) lq (ready .sound) (ready .full) (ready .low)
         (A.in-range number (at w 0) (plain .one) (omega (arith, plain .next)))
         (acked-is number (openedOf (parts w h b t)) l o _ o′
-        (acknowledges number (openedOf (parts w h b t)) o (outboxIn w′ h′ b′) o′ _ (flag f) messages-exact left
-        (ap (λ (i : ℕ). record { «last_replay_at» = t; generation = i; released = at h 769; persisted = at h 770 }) raised ∙ clock-raised (eqb (at w′ 1) (at w 1)) (clockIn h t)) flagged)
-        (subst (λ (c : Clock). Listed (asked c) l 0 l₁ n₁) (clock-dated w h b t (ready .halves) (used .words) (bytes-long w h b t (ready .full)) w′ h′ b′ k words halves bytes g f) li)
+        (acknowledges number (openedOf (parts w h b t)) o (outboxIn w′ h′ b′) o′ _ (flag f) messages-exact (d .left)
+        (ap (λ (i : ℕ). record { «last_replay_at» = t; generation = i; released = at h 769; persisted = at h 770 }) raised
+        ∙ clock-raised (eqb (at w′ 1) (at w 1)) (clockIn h t)) flagged)
+        (subst (λ (x : Clock). Listed (asked x) l 0 l₁ n₁) (dates ec) li)
         (λ x y. complete-no (stageOf (codesIn h b) .disposition) _ (other-disposition (codesIn h b) (plain .disposition)))
         (raw-code (codesIn h b) (plain .raw)) lj))
 
