@@ -1,7 +1,7 @@
 -- An ack on the parts of a session, done in place. Assumes nothing.
 use Prim.Native.Nat.{ℕ, _+_, _-_, _≤_, _<_}
 use mathlib.Core.Path.{_≡_, refl, sym, ap, _∙_, subst}
-use mathlib.Core.Bool.{Bool, true, false, _&&_, _||_}
+use mathlib.Core.Bool.{Bool, true, false, not, _&&_, _||_, true≢false}
 use mathlib.Core.List.{List}
 use native.Mathlib.Omega.{arith}
 use lib.Ieee.{Float}
@@ -9,7 +9,9 @@ use lib.ListN.{length, set, length-set}
 use lib.Seq.{getD-set-same}
 use lib.Dec.{leb, eqb}
 use borrow.Author.Tests.{eq-eqb, ne-eqb}
-use Rattle.rules.specs.declared.Answer.the-variants.{Flag}
+use Rattle.rules.specs.declared.Answer.the-variants.{Flag, Refused}
+use Rattle.rules.specs.declared.Refusal.{Refusal}
+use Rattle.rules.specs.declared.Refusal.the-variants.{ShortBuffer, BadRecord, GenerationsExhausted}
 use Rattle.rules.specs.declared.Clock.{Clock}
 use Rattle.rules.specs.Lists.{Bytes, if_then_else_, kept}
 use Rattle.rules.specs.State.{is-raw}
@@ -17,13 +19,16 @@ use Rattle.rules.specs.Receiving.{mode-of}
 use Rattle.rules.specs.Acks.{survives}
 use Rattle.rules.specs.Calls.{gets-ack}
 use Rattle.rules.specs.Setup.{rejection-complete}
+use Rattle.events.specs.declared.Stop.{Stop}
+use Rattle.events.specs.declared.Stop.the-variants.{No, By}
 use Rattle.events.specs.Written.{Listed, asked}
 use Rattle.outbox.specs.View.{unackedOf, ExactOutbox}
-use Rattle.outbox.specs.Steps.{Left}
 use Rattle.peer_session.specs.declared.Stage.{Stage}
+use Rattle.peer_session.specs.declared.SessionState.{SessionState}
 use Rattle.peer_session.specs.declared.TerminalHandoff.{TerminalHandoff}
 use Rattle.peer_session.specs.View.{stateOf}
 use Rattle.peer_session.specs.Sound.{soundOf, Full}
+use Rattle.session.specs.declared.Returned.{Returned}
 use Rattle.session.specs.Promise.{CalledWithStores}
 use Rattle.session.proofs.Queries.{complete-no}
 use Rattle.acks.specs.Steps.{clockAfter, notices}
@@ -37,9 +42,10 @@ use Rattle.parts.specs.Frames.{Past}
 use Rattle.parts.specs.Driven.{Driven}
 use Rattle.parts.proofs.Fields.{Agree, agree-past, agree-set, agree-then, outbox-same, numbers-same, section-same}
 use Rattle.parts.proofs.After.{Kept, other, after, agree-all}
-use Rattle.parts.proofs.Drives.{changes}
+use Rattle.parts.proofs.Drives.{changes, refuses}
+use Rattle.link_outbox.specs.Steps.{Drops}
 use Rattle.link_sound.proofs.Parts.{Usable, usable}
-use Rattle.link_acks.specs.Acks.{InPlace, raisedIf}
+use Rattle.link_acks.specs.Acks.{AckReady, AckTurns, AckFound, Plain, raisedIf}
 use Rattle.link_acks.proofs.Lengths.{bytes-long}
 
 -- ---- what the codes say, good ones or not
@@ -55,9 +61,21 @@ module _ (g : StageCodes) where
   other-disposition : (g .disposition ≡ 4 → ⊥) → stageOf g .disposition ≡ 4 → ⊥
   other-disposition h = either (λ (s : Stage). s .disposition ≡ 4 → ⊥) (good-codes g) (good-stage g) (bad-stage g) h (λ e. omega (arith, e))
 
+-- ---- small steps
+
+module _ (a b g : ℕ) where
+  pub raised-not : a ≡ b → g ≡ raisedIf (eqb a b) g
+  raised-not e = rw (eq-eqb a b e)
+
+  pub raised-one : (a ≡ b → ⊥) → g + 1 ≡ raisedIf (eqb a b) g
+  raised-one e = rw (ne-eqb a b e)
+
+pub not-four : (x : ℕ) → not (eqb x 4) ≡ true → x ≡ 4 → ⊥
+not-four x e f = true≢false (sym (rw (eq-eqb x 4 f) at e))
+
 -- ---- what is left
 
-module _ (w h b : List ℕ) (t : Float) (lh : 772 ≤ length h) (lw : 1296 ≤ length w) (lb : 4936 ≤ length b) (w′ h′ b′ : List ℕ) (left : ℕ) (words : w′ ≡ set w 1 left)
+module _ (w h b : List ℕ) (t : Float) (lh : length h ≡ 772) (lw : 1296 ≤ length w) (lb : 4936 ≤ length b) (w′ h′ b′ : List ℕ) (left : ℕ) (words : w′ ≡ set w 1 left)
     (halves : Past 512 h h′) (bytes : Past 512 b b′) (g f : ℕ) where
   -- halves with the generation g, bytes with the handoff's flag f
   abbrev dated : List ℕ
@@ -137,7 +155,7 @@ clock-raised : (e : Bool) (c : Clock) → record { «last_replay_at» = c .«las
 clock-raised true c = refl
 clock-raised false c = refl
 
-module _ (w h b : List ℕ) (t : Float) (l : List ℕ) (o : Bytes) (number : ℕ) (ready : InPlace (parts w h b t) (length l) (length o) number) where
+module _ (w h b : List ℕ) (t : Float) (l : List ℕ) (o : Bytes) (number : ℕ) (ready : AckReady (parts w h b t) (length l) (length o)) where
   used : Usable w h b
   used = usable w h b t (record { is = sym (ready .sound); full = ready .full })
 
@@ -145,22 +163,77 @@ module _ (w h b : List ℕ) (t : Float) (l : List ℕ) (o : Bytes) (number : ℕ
   pub messages-exact : ExactOutbox (outboxIn w h b) (length o)
   messages-exact = used .unacked o (ready .outbound)
 
-  module _ (w′ h′ b′ : List ℕ) (o′ : Bytes) (left : Left (outboxIn w h b) o (kept (survives number) (unackedOf (outboxIn w h b) o)) (outboxIn w′ h′ b′) o′)
-      (k : ℕ) (words : w′ ≡ set w 1 k) (halves : Past 512 h h′) (bytes : Past 512 b b′) (g f : ℕ) (raised : g ≡ raisedIf (eqb (at w′ 1) (at w 1)) (at h 768))
+  module _ {w′ h′ b′ : List ℕ} {o′ : Bytes} (d : Drops number w h b o w′ h′ b′ o′) (g f : ℕ) (raised : g ≡ raisedIf (eqb (at w′ 1) (at w 1)) (at h 768))
       (flagged : flag f ≡ (flag (at b 774) || (flag (at b 773) && leb (at w 9) number))) where
-    pub went : {l₁ l₂ : List ℕ} {n₁ n : ℕ} → Listed (asked (clockIn (set h′ 768 g) t)) l 0 l₁ n₁ → Listed (notices number false true) l₁ n₁ l₂ n
-        → {y : LinkAnswer} → y ≡ answerOf (Flag true) n → (q : Bytes) → 32768 ≤ length q
+    -- how many are left
+    abbrev k : ℕ
+    k = length (kept (survives number) (unackedOf (outboxIn w h b) o))
+
+    dates : {c : Clock} → c ≡ clockIn (set h′ 768 g) t → c ≡ record { «last_replay_at» = t; generation = g; released = at h 769; persisted = at h 770 }
+    dates e =
+        e
+        ∙ clock-dated w h b t (ready .halves) (used .words) (bytes-long w h b t (ready .full)) w′ h′ b′ k (d .words) (d .halves) (d .bytes) g f
+
+    pub went : Plain w b number → {c : Clock} {l₁ l₂ : List ℕ} {n₁ n : ℕ} → c ≡ clockIn (set h′ 768 g) t → Listed (asked c) l 0 l₁ n₁
+        → Listed (notices number false true) l₁ n₁ l₂ n → {y : LinkAnswer} → y ≡ answerOf (Flag true) n → (q : Bytes) → 32768 ≤ length q
         → Driven (parts w h b t) (parts w′ (set h′ 768 g) (set b′ 774 f) t) y (λ s r. CalledWithStores (gets-ack number) s l o q r l₂ o′ q)
     unfolding openedOf
-    went {l₁} {l₂} {n₁} {n} li lj e q lq =
+    went plain {c} {l₁} {l₂} {n₁} {n} ec li lj e q lq =
         changes (parts w h b t) (ready .sound) (parts w′ (set h′ 768 g) (set b′ 774 f) t) _
-        (ack-leaves w h b t (ready .halves) (used .words) (bytes-long w h b t (ready .full)) w′ h′ b′ k words halves bytes g f)
-        (Flag true) n e
-        (λ d. A.goes number (openedOf (parts w h b t)) l o q d (ready .list) (ready .outbound) lq (ready .sound) (ready .full) (ready .low)
-        (A.in-range number (at w 0) (ready .one) (omega (arith, ready .next)))
+        (ack-leaves w h b t (ready .halves) (used .words) (bytes-long w h b t (ready .full)) w′ h′ b′ k (d .words) (d .halves) (d .bytes) g f) (Flag true) n e
+        (λ v. A.goes number (openedOf (parts w h b t)) l o q v (ready .list) (ready .outbound) lq (ready .sound) (ready .full) (ready .low)
+        (A.in-range number (at w 0) (plain .one) (omega (arith, plain .next)))
         (acked-is number (openedOf (parts w h b t)) l o _ o′
-        (acknowledges number (openedOf (parts w h b t)) o (outboxIn w′ h′ b′) o′ _ (flag f) messages-exact left
-        (ap (λ (i : ℕ). record { «last_replay_at» = t; generation = i; released = at h 769; persisted = at h 770 }) raised ∙ clock-raised (eqb (at w′ 1) (at w 1)) (clockIn h t)) flagged)
-        (subst (λ (c : Clock). Listed (asked c) l 0 l₁ n₁) (clock-dated w h b t (ready .halves) (used .words) (bytes-long w h b t (ready .full)) w′ h′ b′ k words halves bytes g f) li)
-        (λ x y. complete-no (stageOf (codesIn h b) .disposition) _ (other-disposition (codesIn h b) (ready .disposition)))
-        (raw-code (codesIn h b) (ready .raw)) lj))
+        (acknowledges number (openedOf (parts w h b t)) o (outboxIn w′ h′ b′) o′ _ (flag f) messages-exact (d .left)
+        (ap (λ (i : ℕ). record { «last_replay_at» = t; generation = i; released = at h 769; persisted = at h 770 }) raised
+        ∙ clock-raised (eqb (at w′ 1) (at w 1)) (clockIn h t)) flagged)
+        (subst (λ (x : Clock). Listed (asked x) l 0 l₁ n₁) (dates ec) li)
+        (λ x y. complete-no (stageOf (codesIn h b) .disposition) _ (other-disposition (codesIn h b) (plain .disposition)))
+        (raw-code (codesIn h b) (plain .raw)) lj))
+
+-- ---- an ack that is not: what the driver's call leaves is stored
+
+pub drives : (p : Parts) {n m : ℕ} (l : List ℕ) (o q : Bytes) (number : ℕ) → AckReady p n m → {s : SessionState} → s ≡ openedOf p → (r : Returned) {l′ : List ℕ} {o′ q′ : Bytes}
+    → CalledWithStores (gets-ack number) s l o q r l′ o′ q′ → (p′ : Parts) → openedOf p′ ≡ r .session → {y : LinkAnswer} → y ≡ answerOf (r .answer) (r .events)
+    → Driven p p′ y (λ s r. CalledWithStores (gets-ack number) s l o q r l′ o′ q′)
+drives p l o q number ready {s} opens r {l′} {o′} {q′} called p′ stored e =
+    changes p (ready .sound) p′ (r .session) stored (r .answer) (r .events) e
+    (subst (λ (x : SessionState). CalledWithStores (gets-ack number) x l o q r l′ o′ q′) opens called)
+
+-- ---- the tests
+
+module _ (p : Parts) {n m k : ℕ} where
+  pub short-list : n < 4096 → AckTurns p n m k ShortBuffer
+  short-list h = record { call = λ l o q el eo eq number r t d. A.list-short number (openedOf p) l o q d t (omega (arith, el)) }
+
+  pub short-outbound : m < 65536 → AckTurns p n m k ShortBuffer
+  short-outbound h = record { call = λ l o q el eo eq number r t d. A.outbound-short number (openedOf p) l o q d t (omega (arith, eo)) }
+
+  pub short-queue : k < 32768 → AckTurns p n m k ShortBuffer
+  short-queue h = record { call = λ l o q el eo eq number r t d. A.queue-short number (openedOf p) l o q d t (omega (arith, eq)) }
+
+  module _ (ln : 4096 ≤ n) (lm : 65536 ≤ m) (lk : 32768 ≤ k) where
+    pub unsound : soundOf (openedOf p) ≡ false → AckTurns p n m k BadRecord
+    unsound e =
+        record { call = λ l o q el eo eq number r t d. A.unsound number (openedOf p) l o q d (omega (arith, el)) (omega (arith, eo)) (omega (arith, eq)) t e }
+
+    pub spent : soundOf (openedOf p) ≡ true → Full (openedOf p) → 4294966000 ≤ openedOf p .clock .generation → AckTurns p n m k GenerationsExhausted
+    spent e full h =
+        record {
+          call = λ l o q el eo eq number r t d.
+              A.exhausted number (openedOf p) l o q d (omega (arith, el)) (omega (arith, eo)) (omega (arith, eq)) e full t h;
+        }
+
+-- the generation lies in the halves
+pub spent-in : (w h b : List ℕ) (t : Float) → 4294966000 ≤ at h 768 → 4294966000 ≤ openedOf (parts w h b t) .clock .generation
+unfolding openedOf
+spent-in w h b t k = k
+
+-- a refusal by them, or none
+pub turned : (p : Parts) (l : List ℕ) (o q : Bytes) (number : ℕ) {r : Stop} {x : Refusal} → AckFound p (length l) (length o) (length q) r → r ≡ By x
+    → {y : LinkAnswer} → y ≡ answerOf (Refused x) 0 → Driven p p y (λ s r. CalledWithStores (gets-ack number) s l o q r l o q)
+turned p l o q number k e f =
+    refuses p _ f (λ v u. subst (λ (z : Stop). AckFound p (length l) (length o) (length q) z) e k .call l o q refl refl refl number v u)
+
+pub fits : (p : Parts) (n m k : ℕ) {r : Stop} → AckFound p n m k r → r ≡ No → AckReady p n m × (32768 ≤ k)
+fits p n m k found e = subst (λ (z : Stop). AckFound p n m k z) e found

@@ -5,29 +5,44 @@ use mathlib.Core.Bool.{Bool, true, false}
 use mathlib.Core.List.{List}
 use lib.Ieee.{Float}
 use lib.ListN.{length}
+use Rattle.rules.specs.declared.Refusal.{Refusal}
+use Rattle.rules.specs.Lists.{Bytes}
+use Rattle.rules.specs.Calls.{gets-ack}
+use Rattle.events.specs.declared.Stop.{Stop}
+use Rattle.events.specs.declared.Stop.the-variants.{No, By}
 use Rattle.peer_session.specs.Sound.{soundOf, Full}
+use Rattle.session.specs.declared.Returned.{Returned}
+use Rattle.session.specs.Promise.{CalledWithStores, Turned}
 use Rattle.parts.specs.Parts.{Parts, parts, at, openedOf}
 
--- what an ack asks that is done in place: in range, in Raw mode, and no rejection waits for it
-pub record InPlace (p : Parts) (n m number : ℕ) : Type 0 where
+-- ---- the tests in their order: the lengths of list and stores, the session, the generation
+
+pub record AckReady (p : Parts) (n m : ℕ) : Type 0 where
   pub sound : soundOf (openedOf p) ≡ true
   pub full : Full (openedOf p)
-  pub halves : 772 ≤ length (p .halves)
+  pub halves : length (p .halves) ≡ 772
   pub list : 4096 ≤ n
   pub outbound : 65536 ≤ m
   pub low : at (p .halves) 768 < 4294966000
+
+pub record AckTurns (p : Parts) (n m k : ℕ) (x : Refusal) : Type 0 where
+  pub call : (l : List ℕ) (o q : Bytes) → length l ≡ n → length o ≡ m → length q ≡ k → (number : ℕ) (r : Returned) → Turned (openedOf p) x r
+      → CalledWithStores (gets-ack number) (openedOf p) l o q r l o q
+
+abbrev pub AckFound : Parts → ℕ → ℕ → ℕ → Stop → Type 0
+AckFound p n m k No = AckReady p n m × (32768 ≤ k)
+AckFound p n m k (By x) = AckTurns p n m k x
+
+abbrev pub AckEnters : List ℕ → List ℕ → List ℕ → ℕ → ℕ → ℕ → Stop → Type 0
+AckEnters w h b n m k r = (t : Float) → AckFound (parts w h b t) n m k r
+
+-- ---- an ack that is done in place: in range, in Raw mode, and no rejection waits for it
+
+pub record Plain (w b : List ℕ) (number : ℕ) : Type 0 where
   pub one : 1 ≤ number
-  pub next : number < at (p .words) 0
-  pub raw : at (p .bytes) 771 ≡ 0
-  pub disposition : at (p .bytes) 768 ≡ 4 → ⊥
-
--- the same with the queue store's length
-pub record Plain (p : Parts) (n m k number : ℕ) : Type 0 where
-  pub place : InPlace p n m number
-  pub queue : 32768 ≤ k
-
-abbrev pub Tested : List ℕ → List ℕ → List ℕ → ℕ → ℕ → ℕ → ℕ → Bool → Type 0
-Tested w h b n m k number r = r ≡ true → (t : Float) → Plain (parts w h b t) n m k number
+  pub next : number < at w 0
+  pub raw : at b 771 ≡ 0
+  pub disposition : at b 768 ≡ 4 → ⊥
 
 -- the generation, by whether as many messages are left as there were
 abbrev pub raisedIf : Bool → ℕ → ℕ

@@ -14,7 +14,7 @@ ghost use Rattle.parts.specs.Parts.{parts, at, flag, retryIn, openedOf};
 ghost use Rattle.parts.specs.Driven.{Driven, DrivenTold};
 ghost use Rattle.link_numbers.specs.Sets.{Rising, Set};
 ghost use Rattle.link_acks.specs.Reports.{Enters, Fit, Reported, AckReported};
-ghost use Rattle.link_acks.specs.Acks.{InPlace, Tested, raisedIf};
+ghost use Rattle.link_acks.specs.Acks.{AckReady, AckEnters, Plain, raisedIf};
 use events::Stop;
 use parts::Bytes;
 use parts::Halves;
@@ -157,4 +157,157 @@ pub fn keepalive(
     events::emit(list, 0, 5, 0, 0, 0);
     let n = link_numbers::list_all(words, parts::RETRY_NUMBERS, parts::RETRIES, list, 1);
     link_codes::plain(2, 1, n)
+}
+
+// ---- an ack
+
+// The tests of an ack, in their order.
+fn ack_enters(
+    words: &Words,
+    halves: &Halves,
+    bytes: &Bytes,
+    list: usize,
+    outbound: usize,
+    queue: usize,
+) -> Stop
+    ensures { λ r. ⌜ AckEnters (now (words .entry)) (now (halves .entry)) (now (bytes .entry)) list outbound queue r ⌝ }
+{
+    if list < SessionState::EVENT_WORDS {
+        return Stop::By(Refusal::ShortBuffer);
+    }
+    if outbound < SessionState::OUTBOUND_BYTES {
+        return Stop::By(Refusal::ShortBuffer);
+    }
+    if queue < SessionState::QUEUE_BYTES {
+        return Stop::By(Refusal::ShortBuffer);
+    }
+    if !link_sound::sound(words, halves, bytes) {
+        return Stop::By(Refusal::BadRecord);
+    }
+    if SessionState::GENERATION_LIMIT <= halves[parts::GENERATION] {
+        return Stop::By(Refusal::GenerationsExhausted);
+    }
+    full_halves(halves);
+    Stop::No
+}
+
+// A slice of an array tells a proof the array's length.
+fn full_halves(halves: &Halves)
+    ensures { λ _. ⌜ length (now (halves .entry)) ≡ 772 ⌝ }
+{
+    let s: &[u32] = halves;
+}
+
+// Whether an ack is in range and lists nothing but code 3, so that it is done in place.
+fn plain_ack(words: &Words, bytes: &Bytes, number: u64) -> bool
+    ensures { λ r. ⌜ (r ≡ true → Plain (now (words .entry)) (now (bytes .entry)) number) ⌝ }
+{
+    if number < 1 {
+        return false;
+    }
+    if words[parts::NEXT] <= number {
+        return false;
+    }
+    if bytes[parts::MODE] != 0 {
+        return false;
+    }
+    bytes[parts::DISPOSITION] != 4
+}
+
+// The generation is raised where a message went.
+fn raised(generation: u32, before: u64, after: u64) -> u32
+    requires { ⌜ generation < 4294966000 ⌝ }
+    ensures { λ r. ⌜ r ≡ raisedIf (eqb after before) generation ⌝ }
+{
+    if after == before {
+        return generation;
+    }
+    generation + 1
+}
+
+// Whether a handoff is acknowledged after an ack, as a flag.
+fn handoff_flag(before: u8, sent: u8, handoff: u64, number: u64) -> u8
+    ensures { λ r. ⌜ flag r ≡ (flag before || (flag sent && leb handoff number)) ⌝ }
+{
+    if acks::handoff_acknowledged(before != 0, sent != 0, handoff, number) {
+        return 1;
+    }
+    0
+}
+
+// The messages up to the ack go, in place.
+fn acknowledged(
+    words: &mut Words,
+    halves: &mut Halves,
+    bytes: &mut Bytes,
+    clock: &f64,
+    list: &mut [u64],
+    outbound: &mut [u8],
+    number: u64,
+) -> LinkAnswer
+    requires { ⌜ AckReady (parts (now words) (now halves) (now bytes) (now clock)) (length (now list)) (length (now outbound)) × Plain (now words) (now bytes) number ⌝ }
+    ensures { λ x. ⌜ ((q : Bytes) → 32768 ≤ length q → Driven (parts (now (words .entry)) (now (halves .entry)) (now (bytes .entry)) (now (clock .entry))) (parts (now (words .exit)) (now (halves .exit)) (now (bytes .exit)) (now (clock .entry))) x (λ s y. CalledWithStores (gets-ack number) s (now (list .entry)) (now (outbound .entry)) q y (now (list .exit)) (now (outbound .exit)) q)) ⌝ }
+{
+    let before = words[parts::UNACKED];
+    let generation = halves[parts::GENERATION];
+    let flag = handoff_flag(
+        bytes[parts::HANDOFF_ACKNOWLEDGED],
+        bytes[parts::HANDOFF_SENT],
+        words[parts::HANDOFF_NUMBER],
+        number,
+    );
+    link_outbox::acknowledge(words, halves, bytes, outbound, number);
+    bytes[parts::HANDOFF_ACKNOWLEDGED] = flag;
+    halves[parts::GENERATION] = raised(generation, before, words[parts::UNACKED]);
+    let k = link_codes::clock_in(halves, clock);
+    let n = events::request(k, list, 0);
+    let m = acks::notify_acknowledged(false, true, list, n, number);
+    link_codes::plain(2, 1, m)
+}
+
+// Any other ack: the driver's call, and what it leaves is stored.
+fn any_ack(
+    words: &mut Words,
+    halves: &mut Halves,
+    bytes: &mut Bytes,
+    clock: &mut f64,
+    list: &mut [u64],
+    outbound: &mut [u8],
+    queue: &mut [u8],
+    number: u64,
+) -> LinkAnswer
+    requires { ⌜ AckReady (parts (now words) (now halves) (now bytes) (now clock)) (length (now list)) (length (now outbound)) ⌝ }
+    ensures { λ x. ⌜ Driven (parts (now (words .entry)) (now (halves .entry)) (now (bytes .entry)) (now (clock .entry))) (parts (now (words .exit)) (now (halves .exit)) (now (bytes .exit)) (now (clock .exit))) x (λ s y. CalledWithStores (gets-ack number) s (now (list .entry)) (now (outbound .entry)) (now (queue .entry)) y (now (list .exit)) (now (outbound .exit)) (now (queue .exit))) ⌝ }
+{
+    let s = link_codes::opened(words, halves, bytes, clock);
+    let r = acks::receive_ack(s, list, outbound, queue, number);
+    let left = r.session;
+    link_codes::store(words, halves, bytes, clock, left);
+    let a = r.answer;
+    link_codes::answer_of(a, r.events)
+}
+
+// The messages up to a number go, except those pending or unsent.
+pub fn ack(
+    words: &mut Words,
+    halves: &mut Halves,
+    bytes: &mut Bytes,
+    clock: &mut f64,
+    list: &mut [u64],
+    outbound: &mut [u8],
+    queue: &mut [u8],
+    number: u64,
+) -> LinkAnswer
+    ensures { λ x. ⌜ Driven (parts (now (words .entry)) (now (halves .entry)) (now (bytes .entry)) (now (clock .entry))) (parts (now (words .exit)) (now (halves .exit)) (now (bytes .exit)) (now (clock .exit))) x (λ s y. CalledWithStores (gets-ack number) s (now (list .entry)) (now (outbound .entry)) (now (queue .entry)) y (now (list .exit)) (now (outbound .exit)) (now (queue .exit))) ⌝ }
+{
+    let stop = ack_enters(words, halves, bytes, list.len(), outbound.len(), queue.len());
+    match stop {
+        Stop::By(x) => link_codes::refusal(x),
+        Stop::No => {
+            if plain_ack(words, bytes, number) {
+                return acknowledged(words, halves, bytes, clock, list, outbound, number);
+            }
+            any_ack(words, halves, bytes, clock, list, outbound, queue, number)
+        }
+    }
 }
