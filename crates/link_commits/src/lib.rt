@@ -73,7 +73,14 @@ fn release_by(
         return 0;
     }
     let sent = link_outbox::release(words, halves, bytes, commit.outbound, list, 0);
-    let n = link_numbers::release(words, parts::WAITING_NUMBERS, parts::WAITING, commit.remote, list, sent);
+    let n = link_numbers::release(
+        words,
+        parts::WAITING_NUMBERS,
+        parts::WAITING,
+        commit.remote,
+        list,
+        sent,
+    );
     words[parts::RELEASED] = commit.remote;
     halves[parts::RELEASED_GENERATION] = commit.generation;
     n
