@@ -259,7 +259,7 @@ fn acknowledged(
     link_outbox::acknowledge(words, halves, bytes, outbound, number);
     bytes[parts::HANDOFF_ACKNOWLEDGED] = flag;
     halves[parts::GENERATION] = raised(generation, before, words[parts::UNACKED]);
-    let k = link_codes::clock_in(halves, clock);
+    let k = link_codes::reading::clock_in(halves, clock);
     let n = events::request(k, list, 0);
     let m = acks::notify_acknowledged(false, true, list, n, number);
     link_codes::plain(2, 1, m)

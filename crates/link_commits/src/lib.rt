@@ -99,7 +99,7 @@ fn finish(
     requires { ⌜ Ready (parts (now words) (now halves) (now bytes) (now clock)) (length (now list)) commit ⌝ }
     ensures { λ x. ⌜ Driven (parts (now (words .entry)) (now (halves .entry)) (now (bytes .entry)) (now (clock .entry))) (parts (now (words .exit)) (now (halves .exit)) (now (bytes .exit)) (now (clock .entry))) x (λ s y. CalledWithList (completes commit persisted) s (now (list .entry)) y (now (list .exit))) ⌝ }
 {
-    let k = link_codes::clock_in(halves, clock);
+    let k = link_codes::reading::clock_in(halves, clock);
     let after = commits::persisted_by(k, commit, persisted);
     halves[parts::PERSISTED_GENERATION] = after.persisted;
     let released = release_by(words, halves, bytes, list, commit);

@@ -146,7 +146,7 @@ fn setup_in(halves: &Halves, bytes: &Bytes) -> Setup
     ensures { λ r. ⌜ r ≡ stageOf (codesIn (now (halves .entry)) (now (bytes .entry))) .setup ⌝ }
 {
     let g = link_codes::codes(halves, bytes);
-    let stage = link_codes::stage_of(g);
+    let stage = link_codes::coding::stage_of(g);
     stage.setup
 }
 
@@ -194,7 +194,7 @@ pub fn rejection_complete(words: &Words, halves: &Halves, bytes: &Bytes, clock: 
     ensures { λ r. ⌜ ((o q : Bytes) → r ≡ rejection-complete (stateOf (openedOf (parts (now (words .entry)) (now (halves .entry)) (now (bytes .entry)) (now (clock .entry)))) o q)) ⌝ }
 {
     let g = link_codes::codes(halves, bytes);
-    let stage = link_codes::stage_of(g);
+    let stage = link_codes::coding::stage_of(g);
     if stage.disposition == 4 {
         return words[parts::UNACKED] == 0;
     }

@@ -88,7 +88,7 @@ fn goes(
         Stop::By(x) => link_codes::refusal(x),
         Stop::No => {
             halves[parts::GENERATION] = generation + 1;
-            let k = link_codes::clock_in(halves, clock);
+            let k = link_codes::reading::clock_in(halves, clock);
             let n = events::request(k, list, 0);
             link_codes::plain(1, number, n)
         }

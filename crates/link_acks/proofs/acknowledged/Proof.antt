@@ -10,7 +10,7 @@ use Rattle.acks.proofs.notify_acknowledged.Reads as notify-acknowledged-reads
 use Rattle.events.proofs.request.Reads as request-reads
 use Rattle.link_acks.proofs.handoff_flag.Reads as handoff-flag-reads
 use Rattle.link_acks.proofs.raised.Reads as raised-reads
-use Rattle.link_codes.proofs.clock_in.Reads as clock-in-reads
+use Rattle.link_codes.proofs.reading.clock_in.Reads as clock-in-reads
 use Rattle.link_codes.proofs.plain.Reads as plain-reads
 use Rattle.link_outbox.proofs.acknowledge.Reads as acknowledge-reads
 

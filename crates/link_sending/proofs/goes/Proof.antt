@@ -12,7 +12,7 @@ use Rattle.link_sending.proofs.goes.Tie as tie
 use Rattle.link_sending.proofs.goes.Reads as reads
 use Rattle.link_sending.proofs.goes.Lts as lts
 use Rattle.events.proofs.request.Reads as request-reads
-use Rattle.link_codes.proofs.clock_in.Reads as clock-in-reads
+use Rattle.link_codes.proofs.reading.clock_in.Reads as clock-in-reads
 use Rattle.link_codes.proofs.plain.Reads as plain-reads
 use Rattle.link_codes.proofs.refusal.Reads as refusal-reads
 use Rattle.link_sending.proofs.allocate.Reads as allocate-reads
