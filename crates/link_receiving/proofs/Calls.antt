@@ -1,44 +1,41 @@
 -- Data in Raw mode that is delivered to an empty queue, or joins the queue and leaves it so: the driver's call. Assumes nothing.
-use mathlib.Core.Path.{_≡_, refl, sym, ap, _∙_, subst}
+use mathlib.Core.Path.{_≡_, refl, sym, ap, _∙_}
 use mathlib.Core.Bool.{Bool, true, false, not, _&&_, _||_}
-use mathlib.Core.List.{List, [], _∷_, _++_}
-use Prim.Native.Nat.{ℕ, _+_, _-_, _*_, _≤_, _<_}
+use mathlib.Core.List.{List}
+use Prim.Native.Nat.{ℕ, _+_, _-_, _≤_, _<_}
 use native.Mathlib.Omega.{arith}
-use lib.ListN.{length, take}
+use lib.ListN.{length}
 use lib.Dec.{eqb, ltb}
-use borrow.Author.Tests.{eq-eqb, eqb-true, ltb-true, ne-eqb}
+use borrow.Author.Tests.{eq-eqb, eqb-true}
 use Rattle.rules.specs.declared.HostStatus.{HostStatus}
-use Rattle.rules.specs.declared.Clock.{Clock}
 use Rattle.rules.specs.declared.ReceiveMode.{ReceiveMode}
 use Rattle.rules.specs.declared.ReceiveMode.the-variants.{Raw}
 use Rattle.rules.specs.declared.Answer.the-variants.{Flag}
-use Rattle.rules.specs.Lists.{Bytes, any, all, put, itself, rising}
+use Rattle.rules.specs.Lists.{Bytes, any, put, itself}
 use Rattle.rules.specs.State.{Frame, State, is-proposal, is-frame, frame-number}
 use Rattle.rules.specs.Calls.{gets-data}
-use Rattle.rules.specs.Receiving.{available, deliverable, terminal, is-next, is-reject, at-once, from-ahead}
-use Rattle.rules.proofs.Lists.{and-left, and-right, put-last}
+use Rattle.rules.specs.Receiving.{available, deliverable, terminal, is-next, is-reject}
+use Rattle.rules.proofs.Lists.{and-left}
 use Rattle.events.specs.declared.Stop.the-variants.{No}
 use Rattle.events.specs.Written.{Listed, asked, books}
 use Rattle.numbers.specs.declared.Numbers.{Numbers}
 use Rattle.numbers.specs.Seats.{inUse, Holds}
 use Rattle.numbers.proofs.Laws.{exact-length}
 use Rattle.queue.specs.declared.Queue.{Queue}
-use Rattle.queue.specs.View.{endQ, usedQ, framesOf, Repacked, ExactQueue}
+use Rattle.queue.specs.View.{endQ, framesOf, Repacked}
 use Rattle.queue.specs.Steps.{Leads}
 use Rattle.queue.proofs.View.{leads}
 use Rattle.stores.specs.Fronts.{front}
 use Rattle.peer_session.specs.declared.SessionState.{SessionState}
 use Rattle.peer_session.specs.View.{stateOf}
-use Rattle.session.specs.declared.Returned.{Returned}
 use Rattle.session.specs.Promise.{lent, Called}
 use Rattle.delivery.specs.declared.Turn.{Turn}
-use Rattle.delivery.specs.declared.Step.{Step}
 use Rattle.delivery.specs.Turns.{frameOf, Delivered}
 use Rattle.delivery.specs.Acts.{HandedOver}
 use Rattle.delivery.proofs.Queues.{recordAt, with-last, put-more, exact-more}
 use Rattle.delivery.proofs.Steps.{ready-within, did-message, did-consumed, raw-is, deliver-goes}
 use Rattle.draining.specs.Arrived.{Arrived}
-use Rattle.draining.specs.Turns.{turnOf, advanced, with-queue}
+use Rattle.draining.specs.Turns.{turnOf, with-queue}
 use Rattle.receiving.specs.declared.Verdict.the-variants.{New}
 use Rattle.receiving.specs.Checks.{Checked, Receiving, Taking}
 use Rattle.receiving.proofs.Checks.{few-of, full-few, is-new}

@@ -1,7 +1,7 @@
 -- Data in place is the driver's call. Assumes nothing.
 use mathlib.Core.Path.{_≡_, refl, sym, ap, _∙_, subst}
-use mathlib.Core.Bool.{Bool, true, false}
-use mathlib.Core.List.{List, [], _∷_, _++_}
+use mathlib.Core.Bool.{true}
+use mathlib.Core.List.{List, [], _∷_}
 use Prim.Native.Nat.{ℕ, zero, suc, _+_, _-_, _*_, _≤_, _<_}
 use native.Mathlib.Omega.{arith}
 use lib.Ieee.{Float}
@@ -12,12 +12,10 @@ use Rattle.rules.specs.declared.Clock.{Clock}
 use Rattle.rules.specs.declared.HostStatus.{HostStatus}
 use Rattle.rules.specs.declared.Answer.the-variants.{Flag}
 use Rattle.rules.specs.Lists.{Bytes, put}
-use Rattle.rules.specs.State.{Frame, State, frame-number}
+use Rattle.rules.specs.State.{Frame, frame-number}
 use Rattle.rules.specs.Calls.{gets-data}
-use Rattle.rules.proofs.Sound.{Sound}
 use Rattle.events.specs.Written.{Listed, asked}
-use Rattle.queue.specs.View.{numQ, framesOf, endQ, blankQ, ExactQueue, Repacked}
-use Rattle.queue.specs.Steps.{arrived, Room}
+use Rattle.queue.specs.View.{numQ, framesOf, blankQ, ExactQueue, Repacked}
 use Rattle.queue.proofs.View.{repacked-as}
 use Rattle.peer_session.specs.declared.SessionState.{SessionState}
 use Rattle.peer_session.specs.View.{stateOf}

@@ -1,16 +1,14 @@
 -- A drain that takes nothing, at the end of a call. Assumes nothing.
-use mathlib.Core.Path.{_≡_, refl, sym, ap, _∙_, subst}
-use mathlib.Core.Bool.{Bool, true, false, _&&_}
+use mathlib.Core.Path.{_≡_, refl, sym, _∙_}
+use mathlib.Core.Bool.{Bool, true, false}
 use mathlib.Core.List.{List}
 use Prim.Native.Nat.{ℕ, _+_, _≤_, _<_}
-use native.Mathlib.Omega.{arith}
 use lib.ListN.{length, take}
 use Rattle.rules.specs.declared.HostStatus.{HostStatus}
 use Rattle.rules.specs.Lists.{Bytes, total, packed}
 use Rattle.rules.specs.State as R
 use Rattle.rules.specs.State.{frame-body}
-use Rattle.rules.specs.Receiving.{available, listens}
-use Rattle.rules.specs.Buffers.{repacked}
+use Rattle.rules.specs.Receiving.{available}
 use Rattle.rules.proofs.Lists.{length-packed}
 use Rattle.rules.proofs.Buffers.{repacked-same}
 use Rattle.events.specs.declared.Stop.the-variants.{No}
@@ -21,7 +19,7 @@ use Rattle.queue.specs.View.{lenQ, usedQ, framesOf, endQ, ExactQueue, Repacked}
 use Rattle.queue.proofs.View.{frames-bytes, frames-total}
 use Rattle.peer_session.specs.declared.SessionState.{SessionState}
 use Rattle.delivery.specs.declared.Turn.{Turn}
-use Rattle.delivery.specs.Turns.{during, Under, Drains}
+use Rattle.delivery.specs.Turns.{Drains}
 use Rattle.delivery.specs.Acts.{Available, drainedBy}
 use Rattle.delivery.proofs.Queues.{recordAt}
 use Rattle.delivery.proofs.Drains.{Turns, turns-none, out-empty, out-unavailable, out-later}

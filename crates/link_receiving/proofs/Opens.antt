@@ -9,14 +9,11 @@ use borrow.Author.Tests.{eqb-true, eqb-false}
 use lib.Ieee.{Float}
 use lib.ListN.{length, set, length-set}
 use lib.Seq.{ext-getD, getD-set-same, getD-set-other}
-use Rattle.rules.specs.declared.Clock.{Clock}
-use Rattle.numbers.specs.declared.Numbers.{Numbers}
-use Rattle.peer_session.specs.declared.SessionState.{SessionState}
 use Rattle.delivery.proofs.Queues.{with-last}
 use Rattle.draining.specs.Turns.{with-queue}
-use Rattle.parts.specs.Parts.{parts, at, section, outboxIn, queueIn, waitingIn, retryIn, clockIn, codesIn, handoffIn, policyIn, rejectIn, openedOf}
+use Rattle.parts.specs.Parts.{parts, at, section, queueIn, waitingIn, clockIn, openedOf}
 use Rattle.parts.specs.Codes.{stageOf}
-use Rattle.parts.proofs.Fields.{Agree, agree-set, agree-then, at-section, length-section, section-same, outbox-same, queue-same, numbers-same, clock-same, codes-same, handoff-same, policy-same, reject-same}
+use Rattle.parts.proofs.Fields.{Agree, agree-set, agree-then, at-section, length-section, outbox-same, queue-same, numbers-same, clock-same, codes-same, handoff-same, policy-same, reject-same}
 use Rattle.parts.proofs.Opened.{opened-as}
 use Rattle.link_receiving.proofs.Calls.{taken}
 

@@ -1,11 +1,11 @@
 -- A frame that goes in after those that are queued. Assumes nothing.
 use mathlib.Core.Path.{_≡_, refl, sym, ap, _∙_, subst}
-use mathlib.Core.Bool.{Bool, true, false, _&&_, _||_}
+use mathlib.Core.Bool.{Bool, true, false, _||_}
 use mathlib.Core.List.{List, [], _∷_, _++_, map, append-nil, append-assoc}
 use Prim.Native.Nat.{ℕ, zero, suc, _+_, _-_, _≤_, _<_}
 use native.Mathlib.Omega.{arith}
 use native.Mathlib.Numerals.{add-one}
-use lib.ListN.{length, take, drop, getD, set, length-set, length-append}
+use lib.ListN.{length, take, drop, set, length-set, length-append}
 use lib.Seq.{getD-set-same, getD-set-other, length-take-le}
 use lib.Dec.{ltb, eqb}
 use borrow.Author.Tests.{ltb-true, lt-ltb, ne-eqb}
@@ -18,13 +18,12 @@ use Rattle.rules.specs.Buffers.{repacked}
 use Rattle.rules.proofs.Lists.{and-left, and-right, and-both, packed-append, put-last}
 use Rattle.queue.specs.declared.Queued.{Queued}
 use Rattle.queue.specs.declared.Queue.{Queue}
-use Rattle.queue.specs.View.{numQ, lenQ, recordQ, blankQ, usedQ, framesOf, endQ, ExactQueue, Repacked}
-use Rattle.queue.specs.Steps.{arrived, Room}
-use Rattle.queue.proofs.View.{frames-records, frames-bytes, repacked-is, repacked-as}
-use Rattle.delivery.proofs.Queues.{recordAt}
+use Rattle.queue.specs.View.{numQ, recordQ, usedQ, framesOf, endQ, ExactQueue}
+use Rattle.queue.specs.Steps.{arrived}
+use Rattle.queue.proofs.View.{frames-records, frames-bytes, repacked-is}
 use Rattle.parts.specs.Seats.{seats}
 use Rattle.parts.specs.Parts.{at, queuedAt, queueIn}
-use Rattle.parts.proofs.Seats.{length-seats, getD-seats, seats-same, take-seats, seats-snoc, map-seats}
+use Rattle.parts.proofs.Seats.{length-seats, seats-same, take-seats, seats-snoc, map-seats}
 use Rattle.link_receiving.specs.Steps.{Joins, Joined}
 
 -- ---- a number above the last of those that rise

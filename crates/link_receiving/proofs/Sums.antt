@@ -1,9 +1,8 @@
 -- Where the queued bodies end, as a sum over the lengths. Assumes nothing.
-use mathlib.Core.Path.{_≡_, refl, sym, ap, _∙_}
+use mathlib.Core.Path.{_≡_, refl, ap, _∙_}
 use mathlib.Core.List.{List, [], _∷_, map}
 use Prim.Native.Nat.{ℕ, zero, suc, _+_, _-_, _≤_, _<_}
 use native.Mathlib.Omega.{arith}
-use native.Mathlib.Numerals.{add-one}
 use Rattle.stores.proofs.Packs.{total-snoc}
 use Rattle.rules.specs.Lists.{total, itself}
 use Rattle.queue.specs.View.{lenQ, endQ}

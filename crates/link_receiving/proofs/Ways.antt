@@ -2,7 +2,7 @@
 use mathlib.Core.Path.{_≡_, refl, sym, ap, _∙_, subst}
 use mathlib.Core.Bool.{Bool, true, false, true≢false}
 use mathlib.Core.List.{List}
-use Prim.Native.Nat.{ℕ, _+_, _-_, _≤_, _<_}
+use Prim.Native.Nat.{ℕ, _-_, _≤_}
 use native.Mathlib.Omega.{arith}
 use lib.Ieee.{Float, nan}
 use lib.ListN.{length, replicate, length-replicate}
@@ -15,17 +15,15 @@ use Rattle.rules.specs.Lists.{Bytes, if_then_else_}
 use Rattle.rules.specs.Receiving.{mode-of}
 use Rattle.queue.specs.View.{endQ, ExactQueue}
 use Rattle.queue.specs.Sound.{soundQueue}
-use Rattle.peer_session.specs.Sound.{soundOf, Checked}
+use Rattle.peer_session.specs.Sound.{Checked}
 use Rattle.delivery.specs.Turns.{frameOf}
-use Rattle.draining.specs.Arrived.{Arrived}
 use Rattle.parts.specs.declared.StageCodes.{StageCodes}
 use Rattle.parts.specs.Codes.{good-codes, good-stage, bad-stage, stageOf}
 use Rattle.parts.specs.Parts.{parts, at, queueIn, codesIn, openedOf}
 use Rattle.link_sound.proofs.Parts.{Usable, usable}
-use Rattle.link_receiving.specs.declared.Way.{Way}
 use Rattle.link_receiving.specs.declared.Way.the-variants.{Deliver, Enqueue, Other}
 use Rattle.link_receiving.specs.Steps.{bodies, Summing}
-use Rattle.link_receiving.specs.Ways.{Data, Fresh, Now, Later, Reached, Tests, Waits, Tells, Passed, Chosen}
+use Rattle.link_receiving.specs.Ways.{Data, Now, Later, Reached, Tests, Tells, Passed, Chosen}
 use Rattle.link_receiving.proofs.Sums.{end-bodies}
 
 pub untold : {A : Type 0} → Tells false A

@@ -1,7 +1,7 @@
 -- Data that is done in place, and what must hold for it. Assumes nothing.
 use Prim.Native.Nat.{ℕ, _+_, _-_, _≤_, _<_}
 use mathlib.Core.Path.{_≡_}
-use mathlib.Core.Bool.{Bool, true, false}
+use mathlib.Core.Bool.{Bool, true}
 use mathlib.Core.List.{List}
 use lib.Ieee.{Float}
 use lib.ListN.{length}
@@ -15,7 +15,7 @@ use Rattle.peer_session.specs.Sound.{Checked}
 use Rattle.draining.specs.Arrived.{Arrived}
 use Rattle.parts.specs.Parts.{parts, at, queueIn, openedOf}
 use Rattle.link_receiving.specs.declared.Way.{Way}
-use Rattle.link_receiving.specs.declared.Way.the-variants.{Deliver, Enqueue, Other}
+use Rattle.link_receiving.specs.declared.Way.the-variants.{Deliver, Enqueue}
 
 -- new data in Raw mode, past the checks
 pub record Fresh (f : Frame) (s : SessionState) : Type 0 where

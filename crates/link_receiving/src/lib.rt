@@ -1,7 +1,7 @@
 // `link_data` on the parts of a session: in Raw mode a frame is delivered, or joins the queue, where they lie. All else goes by value.
 ghost use mathlib.Core.Path.{_≡_};
 ghost use mathlib.Core.Bool.{true};
-ghost use Prim.Native.Nat.{ℕ, _+_, _≤_, _<_};
+ghost use Prim.Native.Nat.{_+_, _≤_, _<_};
 ghost use lib.ListN.{length};
 ghost use Rattle.rules.specs.declared.Answer.the-variants.{Flag};
 ghost use Rattle.rules.specs.Calls.{gets-data};

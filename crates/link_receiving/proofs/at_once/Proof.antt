@@ -1,6 +1,6 @@
-use Rattle.link_receiving.proofs.Ways.{untold, never}
+use Rattle.link_receiving.proofs.Ways.{untold}
 use native.Mathlib.Omega.{arith}
-use borrow.Author.Tests.{ltb-true, leb-true, eqb-true, not-true, not-false}
+use borrow.Author.Tests.{eqb-true, not-false}
 use borrow.Author.Needs.{needs}
 use Rattle.link_receiving.proofs.at_once.Statement.{statement}
 use Rattle.link_receiving.proofs.at_once.Tie as tie

@@ -1,5 +1,5 @@
 use native.Mathlib.Omega.{arith}
-use borrow.Author.Tests.{not-true, not-false}
+use borrow.Author.Tests.{not-false}
 use Rattle.link_receiving.specs.Ways.{Passed}
 use Rattle.link_receiving.proofs.Ways.{chosen-other, chosen-deliver, chosen-enqueue, passed-by, summing, end-is, len-small}
 use borrow.Author.Needs.{needs}

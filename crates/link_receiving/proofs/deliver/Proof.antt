@@ -1,5 +1,4 @@
-use Prim.Native.Nat.{ℕ, _+_, _≤_}
-use mathlib.Core.Path.{_≡_, _∙_}
+use mathlib.Core.Path.{_∙_}
 use native.Mathlib.Omega.{arith}
 use Rattle.delivery.proofs.Written.{few-asked}
 use Rattle.events.specs.Written.{books}

@@ -1,5 +1,4 @@
-use Prim.Native.Nat.{ℕ, _+_, _≤_}
-use mathlib.Core.Path.{_≡_, _∙_, subst}
+use mathlib.Core.Path.{subst}
 use native.Mathlib.Omega.{arith}
 use Rattle.rules.specs.declared.Clock.{Clock}
 use Rattle.events.specs.Written.{Listed, asked}

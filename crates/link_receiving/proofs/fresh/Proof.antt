@@ -1,8 +1,8 @@
 use Prim.Native.Nat.{_<_, _-_}
 use Rattle.parts.specs.Parts.{at}
-use Rattle.link_receiving.proofs.Ways.{untold, never}
+use Rattle.link_receiving.proofs.Ways.{untold}
 use native.Mathlib.Omega.{arith}
-use borrow.Author.Tests.{ltb-true, leb-true, eqb-true, not-true, not-false}
+use borrow.Author.Tests.{ltb-true}
 use borrow.Author.Needs.{needs}
 use Rattle.link_receiving.proofs.fresh.Statement.{statement}
 use Rattle.link_receiving.proofs.fresh.Tie as tie

@@ -1,6 +1,3 @@
-use Prim.Native.Nat.{ℕ}
-use mathlib.Core.Path.{_≡_}
-use lib.ListN.{length}
 use Rattle.link_receiving.proofs.Queues.{is-joined}
 use borrow.Author.Needs.{needs}
 use Rattle.link_receiving.proofs.join.Statement.{statement}

@@ -1,8 +1,7 @@
 use Prim.Native.Nat.{_≤_}
-use Rattle.link_receiving.proofs.Ways.{untold, never}
+use Rattle.link_receiving.proofs.Ways.{untold}
 use native.Mathlib.Omega.{arith}
-use borrow.Author.Tests.{ltb-true, leb-true, eqb-true, not-true, not-false}
-use borrow.Author.Needs.{needs}
+use borrow.Author.Tests.{leb-true}
 use Rattle.link_receiving.proofs.reaches.Statement.{statement}
 use Rattle.link_receiving.proofs.reaches.Tie as tie
 use Rattle.link_receiving.proofs.reaches.Reads as reads

@@ -1,5 +1,5 @@
 use Rattle.link_receiving.proofs.Sums.{bodies-within}
-use Prim.Native.Nat.{ℕ, _-_, _≤_, _<_}
+use Prim.Native.Nat.{_-_, _≤_}
 use mathlib.Core.Path.{_≡_, sym, ap, _∙_}
 use native.Mathlib.Omega.{arith}
 use Rattle.link_receiving.specs.Steps.{bodies, Summing}

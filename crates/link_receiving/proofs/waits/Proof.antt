@@ -1,7 +1,7 @@
 use borrow.Author.Tests.{eqb-false}
 use Rattle.link_receiving.proofs.Ways.{untold, never}
 use native.Mathlib.Omega.{arith}
-use borrow.Author.Tests.{ltb-true, leb-true, eqb-true, not-true, not-false}
+use borrow.Author.Tests.{not-true}
 use borrow.Author.Needs.{needs}
 use Rattle.link_receiving.proofs.waits.Statement.{statement}
 use Rattle.link_receiving.proofs.waits.Tie as tie
