@@ -29,20 +29,9 @@ pub extern "C" fn link_data(
 ) -> LinkAnswer
     ensures { λ x. ⌜ Driven (parts (now (words .entry)) (now (halves .entry)) (now (bytes .entry)) (now (clock .entry))) (parts (now (words .exit)) (now (halves .exit)) (now (bytes .exit)) (now (clock .exit))) x (λ s y. Called (gets-data status (frameOf number kind (now (body .entry)))) s (lent (now (list .entry)) (now (delivery .entry)) (now (outbound .entry)) (now (queue .entry))) y (lent (now (list .exit)) (now (delivery .exit)) (now (outbound .exit)) (now (queue .exit)))) ⌝ }
 {
-    let s = link_codes::opened(words, halves, bytes, clock);
-    let sound = peer_session::sound(s);
-    let r = receiving::receive_data(
-        s,
-        list,
-        delivery,
-        outbound,
-        queue,
-        status,
-        number,
-        kind,
-        body,
-    );
-    drive::finished(words, halves, bytes, clock, sound, r)
+    link_receiving::data(
+        words, halves, bytes, clock, list, delivery, outbound, queue, status, number, kind, body,
+    )
 }
 
 // What takes messages changed, and is ready.
@@ -81,10 +70,7 @@ pub extern "C" fn link_ack(
 ) -> LinkAnswer
     ensures { λ x. ⌜ Driven (parts (now (words .entry)) (now (halves .entry)) (now (bytes .entry)) (now (clock .entry))) (parts (now (words .exit)) (now (halves .exit)) (now (bytes .exit)) (now (clock .exit))) x (λ s y. CalledWithStores (gets-ack number) s (now (list .entry)) (now (outbound .entry)) (now (queue .entry)) y (now (list .exit)) (now (outbound .exit)) (now (queue .exit))) ⌝ }
 {
-    let s = link_codes::opened(words, halves, bytes, clock);
-    let sound = peer_session::sound(s);
-    let r = acks::receive_ack(s, list, outbound, queue, number);
-    drive::finished(words, halves, bytes, clock, sound, r)
+    link_acks::ack(words, halves, bytes, clock, list, outbound, queue, number)
 }
 
 // A keepalive came in. It changes no session.
