@@ -20,6 +20,7 @@ use parts::Bytes;
 use parts::Halves;
 use parts::LinkAnswer;
 use parts::Words;
+use parts::full_halves;
 use peer_session::SessionState;
 use rules::Refusal;
 
@@ -189,13 +190,6 @@ fn ack_enters(
     }
     full_halves(halves);
     Stop::No
-}
-
-// A slice of an array tells a proof the array's length.
-fn full_halves(halves: &Halves)
-    ensures { λ _. ⌜ length (now (halves .entry)) ≡ 772 ⌝ }
-{
-    let s: &[u32] = halves;
 }
 
 // Whether an ack is in range and lists nothing but code 3, so that it is done in place.

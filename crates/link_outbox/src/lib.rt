@@ -21,40 +21,11 @@ use outbox::Place;
 use parts::Bytes;
 use parts::Halves;
 use parts::Words;
-
-// A half as a word.
-fn wide(x: u32) -> u64
-    ensures { λ r. ⌜ r ≡ x ⌝ }
-{
-    x as u64
-}
-
-// A half as a size.
-fn size(x: u32) -> usize
-    ensures { λ r. ⌜ r ≡ x ⌝ }
-{
-    x as usize
-}
-
-// ---- an array that is lent has its length, as a slice of it tells a proof
-
-fn full_words(words: &Words)
-    ensures { λ _. ⌜ length (now (words .entry)) ≡ 1296 ⌝ }
-{
-    let s: &[u64] = words;
-}
-
-fn full_halves(halves: &Halves)
-    ensures { λ _. ⌜ length (now (halves .entry)) ≡ 772 ⌝ }
-{
-    let s: &[u32] = halves;
-}
-
-fn full_bytes(bytes: &Bytes)
-    ensures { λ _. ⌜ length (now (bytes .entry)) ≡ 4936 ⌝ }
-{
-    let s: &[u8] = bytes;
-}
+use parts::full_bytes;
+use parts::full_halves;
+use parts::full_words;
+use parts::size;
+use parts::wide;
 
 // ---- whether they are such as calls leave
 

@@ -12,6 +12,7 @@ use parts::Bytes;
 use parts::Halves;
 use parts::LinkAnswer;
 use parts::Words;
+use parts::full_halves;
 use peer_session::SessionState;
 use rules::Refusal;
 
@@ -58,13 +59,6 @@ fn allocate(
     }
     link_outbox::append(words, halves, bytes, store, at, body);
     Stop::No
-}
-
-// An array that is lent has its length.
-fn full_halves(halves: &Halves)
-    ensures { λ _. ⌜ length (now (halves .entry)) ≡ 772 ⌝ }
-{
-    let s: &[u32] = halves;
 }
 
 // A send past its tests.

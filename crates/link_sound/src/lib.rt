@@ -15,36 +15,20 @@ ghost use Rattle.link_sound.specs.Sizes.{Sized, admits};
 use parts::Bytes;
 use parts::Halves;
 use parts::Words;
+use parts::full_bytes;
+use parts::full_words;
+use parts::wide;
 
 // ---- how long the arrays are: for the proofs
-
-fn words_len(words: &[u64]) -> usize
-    ensures { λ r. do ⌜ r ≡ (← ⟦words.len()⟧ .entry) ⌝ }
-{
-    words.len()
-}
-
-fn bytes_len(bytes: &[u8]) -> usize
-    ensures { λ r. do ⌜ r ≡ (← ⟦bytes.len()⟧ .entry) ⌝ }
-{
-    bytes.len()
-}
 
 pub fn sized(words: &Words, bytes: &Bytes)
     ensures { λ _. ⌜ Sized (now (words .entry)) (now (bytes .entry)) ⌝ }
 {
-    words_len(words);
-    bytes_len(bytes);
+    full_words(words);
+    full_bytes(bytes);
 }
 
 // ---- the queue
-
-// A half as a word.
-fn wide(x: u32) -> u64
-    ensures { λ r. ⌜ r ≡ x ⌝ }
-{
-    x as u64
-}
 
 fn admits(body: u64, bytes: u64, last: u64, sum: u64, number: u64, len: u64, kind: u8) -> bool
     requires { ⌜ sum ≤ bytes ⌝ }

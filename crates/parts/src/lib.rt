@@ -1,5 +1,7 @@
 // A session as C lends it: 64-bit words, 32-bit halves, bytes, and the time of the last replay. Each number lies in the part of its width, at the index
 // that is named here; include/link.h and specs/Parts.antt repeat the indices.
+ghost use mathlib.Core.Path.{_≡_};
+ghost use lib.ListN.{length};
 
 // ---- words
 
@@ -77,4 +79,38 @@ pub struct LinkAnswer {
     pub second: u64,
     pub third: u64,
     pub events: usize,
+}
+
+// ---- an array that is lent has its length, as a slice of it tells a proof
+
+pub fn full_words(words: &Words)
+    ensures { λ _. ⌜ length (now (words .entry)) ≡ 1296 ⌝ }
+{
+    let s: &[u64] = words;
+}
+
+pub fn full_halves(halves: &Halves)
+    ensures { λ _. ⌜ length (now (halves .entry)) ≡ 772 ⌝ }
+{
+    let s: &[u32] = halves;
+}
+
+pub fn full_bytes(bytes: &Bytes)
+    ensures { λ _. ⌜ length (now (bytes .entry)) ≡ 4936 ⌝ }
+{
+    let s: &[u8] = bytes;
+}
+
+// ---- a half as a word, and as a size: a cast of an element asks nothing where a function makes it
+
+pub fn wide(x: u32) -> u64
+    ensures { λ r. ⌜ r ≡ x ⌝ }
+{
+    x as u64
+}
+
+pub fn size(x: u32) -> usize
+    ensures { λ r. ⌜ r ≡ x ⌝ }
+{
+    x as usize
 }

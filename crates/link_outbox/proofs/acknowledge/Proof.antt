@@ -9,12 +9,12 @@ use Rattle.link_outbox.proofs.acknowledge.Tie as tie
 use Rattle.link_outbox.proofs.acknowledge.Reads as reads
 use Rattle.link_outbox.proofs.acknowledge.Lts as lts
 use Rattle.link_outbox.proofs.count_if.Reads as count-if-reads
-use Rattle.link_outbox.proofs.full_bytes.Reads as full-bytes-reads
-use Rattle.link_outbox.proofs.full_halves.Reads as full-halves-reads
-use Rattle.link_outbox.proofs.full_words.Reads as full-words-reads
+use Rattle.parts.proofs.full_bytes.Reads as full-bytes-reads
+use Rattle.parts.proofs.full_halves.Reads as full-halves-reads
+use Rattle.parts.proofs.full_words.Reads as full-words-reads
 use Rattle.link_outbox.proofs.keeps.Reads as keeps-reads
 use Rattle.link_outbox.proofs.lower_if.Reads as lower-if-reads
-use Rattle.link_outbox.proofs.size.Reads as size-reads
+use Rattle.parts.proofs.size.Reads as size-reads
 use Rattle.stores.proofs.clear.Reads as clear-reads
 
 abbrev Inv-loop : tie.InvT-loop

@@ -9,7 +9,7 @@ use Rattle.link_outbox.proofs.mark_sent.Statement.{statement}
 use Rattle.link_outbox.proofs.mark_sent.Tie as tie
 use Rattle.link_outbox.proofs.mark_sent.Reads as reads
 use Rattle.link_outbox.proofs.mark_sent.Lts as lts
-use Rattle.link_outbox.proofs.full_bytes.Reads as full-bytes-reads
+use Rattle.parts.proofs.full_bytes.Reads as full-bytes-reads
 use Rattle.link_outbox.proofs.seat.Reads as seat-reads
 
 few : (a : tie.Start) → at (a .args .words .now) 1 ≤ 256

@@ -14,7 +14,7 @@ use Rattle.link_outbox.proofs.replay.Reads as reads
 use Rattle.link_outbox.proofs.replay.Lts as lts
 use Rattle.link_outbox.proofs.is_clear.Reads as is-clear-reads
 use Rattle.link_outbox.proofs.send_if.Reads as send-if-reads
-use Rattle.link_outbox.proofs.size.Reads as size-reads
+use Rattle.parts.proofs.size.Reads as size-reads
 
 abbrev Inv-loop : tie.InvT-loop
 Inv-loop words halves bytes list₀ n count k₀ from₀ i₀ list k from i =

@@ -8,7 +8,7 @@ use Rattle.link_outbox.proofs.search.Statement.{statement}
 use Rattle.link_outbox.proofs.search.Tie as tie
 use Rattle.link_outbox.proofs.search.Reads as reads
 use Rattle.link_outbox.proofs.search.Lts as lts
-use Rattle.link_outbox.proofs.wide.Reads as wide-reads
+use Rattle.parts.proofs.wide.Reads as wide-reads
 
 abbrev Inv-loop : tie.InvT-loop
 Inv-loop halves count number i₀ i = (count ≤ 256) × (i ≤ count) × ((k : ℕ) → k < i → at halves k ≡ number → ⊥)

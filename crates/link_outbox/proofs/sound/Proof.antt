@@ -8,7 +8,7 @@ use Rattle.link_outbox.proofs.sound.Reads as reads
 use Rattle.link_outbox.proofs.sound.Lts as lts
 use Rattle.link_outbox.proofs.capped.Reads as capped-reads
 use Rattle.link_outbox.proofs.falls_of.Reads as falls-of-reads
-use Rattle.link_outbox.proofs.wide.Reads as wide-reads
+use Rattle.parts.proofs.wide.Reads as wide-reads
 
 -- src/lib.rt:74:16
 element-copy-out-next : tie.Need-element-copy-out-next

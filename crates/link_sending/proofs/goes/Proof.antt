@@ -16,7 +16,7 @@ use Rattle.link_codes.proofs.reading.clock_in.Reads as clock-in-reads
 use Rattle.link_codes.proofs.plain.Reads as plain-reads
 use Rattle.link_codes.proofs.refusal.Reads as refusal-reads
 use Rattle.link_sending.proofs.allocate.Reads as allocate-reads
-use Rattle.link_sending.proofs.full_halves.Reads as full-halves-reads
+use Rattle.parts.proofs.full_halves.Reads as full-halves-reads
 
 -- src/lib.rt:83:5
 full-halves-requires : tie.Need-full-halves-requires

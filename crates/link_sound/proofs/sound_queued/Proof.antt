@@ -18,7 +18,7 @@ use Rattle.link_sound.proofs.sound_queued.Tie as tie
 use Rattle.link_sound.proofs.sound_queued.Reads as reads
 use Rattle.link_sound.proofs.sound_queued.Lts as lts
 use Rattle.link_sound.proofs.admits.Reads as admits-reads
-use Rattle.link_sound.proofs.wide.Reads as wide-reads
+use Rattle.parts.proofs.wide.Reads as wide-reads
 
 abbrev Inv-loop : tie.InvT-loop
 Inv-loop words halves bytes count size body last₀ sum₀ i₀ last sum i =
