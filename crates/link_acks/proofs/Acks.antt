@@ -1,5 +1,5 @@
 -- An ack on the parts of a session, done in place. Assumes nothing.
-use Prim.Native.Nat.{ℕ, _+_, _-_, _≤_, _<_}
+use Prim.Native.Nat.{ℕ, _+_, _≤_, _<_}
 use mathlib.Core.Path.{_≡_, refl, sym, ap, _∙_, subst}
 use mathlib.Core.Bool.{Bool, true, false, not, _&&_, _||_, true≢false}
 use mathlib.Core.List.{List}
@@ -15,10 +15,8 @@ use Rattle.rules.specs.declared.Refusal.the-variants.{ShortBuffer, BadRecord, G
 use Rattle.rules.specs.declared.Clock.{Clock}
 use Rattle.rules.specs.Lists.{Bytes, if_then_else_, kept}
 use Rattle.rules.specs.State.{is-raw}
-use Rattle.rules.specs.Receiving.{mode-of}
 use Rattle.rules.specs.Acks.{survives}
 use Rattle.rules.specs.Calls.{gets-ack}
-use Rattle.rules.specs.Setup.{rejection-complete}
 use Rattle.events.specs.declared.Stop.{Stop}
 use Rattle.events.specs.declared.Stop.the-variants.{No, By}
 use Rattle.events.specs.Written.{Listed, asked}
@@ -26,7 +24,6 @@ use Rattle.outbox.specs.View.{unackedOf, ExactOutbox}
 use Rattle.peer_session.specs.declared.Stage.{Stage}
 use Rattle.peer_session.specs.declared.SessionState.{SessionState}
 use Rattle.peer_session.specs.declared.TerminalHandoff.{TerminalHandoff}
-use Rattle.peer_session.specs.View.{stateOf}
 use Rattle.peer_session.specs.Sound.{soundOf, Full}
 use Rattle.session.specs.declared.Returned.{Returned}
 use Rattle.session.specs.Promise.{CalledWithStores}

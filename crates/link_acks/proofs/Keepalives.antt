@@ -1,9 +1,8 @@
 -- A keepalive on the parts of a session. Assumes nothing.
-use Prim.Native.Nat.{ℕ, _+_, _*_, _≤_, _<_}
+use Prim.Native.Nat.{ℕ, _*_, _≤_, _<_}
 use mathlib.Core.Path.{_≡_, sym}
 use mathlib.Core.Bool.{true, false}
 use mathlib.Core.List.{List, [], _∷_, map}
-use native.Mathlib.Omega.{arith}
 use lib.Ieee.{Float}
 use lib.ListN.{length}
 use Rattle.stores.specs.Placed.{placed}
@@ -18,7 +17,7 @@ use Rattle.session.specs.Promise.{ToldWithList}
 use Rattle.acks.proofs.Keepalives as K
 use Rattle.parts.specs.declared.LinkAnswer.{LinkAnswer}
 use Rattle.parts.specs.Codes.{answerOf}
-use Rattle.parts.specs.Parts.{parts, at, retryIn, openedOf}
+use Rattle.parts.specs.Parts.{parts, retryIn, openedOf}
 use Rattle.parts.specs.Driven.{DrivenTold}
 use Rattle.parts.proofs.Drives.{tells}
 use Rattle.link_numbers.specs.Sets.{Set}
@@ -43,6 +42,3 @@ module _ (w h b : List ℕ) (t : Float) (l : List ℕ) {y : LinkAnswer} where
 module _ (w h b : List ℕ) (t : Float) (sound : soundOf (openedOf (parts w h b t)) ≡ true) (full : Full (openedOf (parts w h b t))) where
   pub retries : Set 784 6 w
   retries = usable w h b t (record { is = sym sound; full = full }) .retry .set
-
-  pub room : (n : ℕ) → 4096 ≤ n → 4 * (1 + at w 6) ≤ n
-  room n ll = omega (arith, retries .exact .few)

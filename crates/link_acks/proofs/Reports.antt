@@ -1,6 +1,6 @@
 -- A report of a send on the parts of a session, by what it leaves of them. Assumes nothing.
 use Prim.Native.Nat.{ℕ, zero, suc, _+_, _*_, _≤_, _<_}
-use mathlib.Core.Path.{_≡_, refl, sym, ap, _∙_, subst}
+use mathlib.Core.Path.{_≡_, refl, sym, _∙_, subst}
 use mathlib.Core.Bool.{Bool, true, false}
 use mathlib.Core.List.{List, [], _∷_}
 use native.Mathlib.Omega.{arith}
@@ -22,7 +22,7 @@ use Rattle.numbers.specs.Seats.{inUse, Holds}
 use Rattle.outbox.specs.Sound.{soundOutbox}
 use Rattle.outbox.specs.Steps.{Flagged}
 use Rattle.peer_session.specs.declared.SessionState.{SessionState}
-use Rattle.peer_session.specs.Sound.{soundOf, Full}
+use Rattle.peer_session.specs.Sound.{soundOf}
 use Rattle.session.specs.declared.Returned.{Returned}
 use Rattle.session.specs.Promise.{CalledWithList}
 use Rattle.session.proofs.WithList.{list-short, list-wrong, list-unsound, list-answers}
@@ -33,7 +33,7 @@ use Rattle.parts.specs.Codes.{answerOf}
 use Rattle.parts.specs.Parts.{Parts, parts, at, section, outboxIn, waitingIn, retryIn, clockIn, handoffIn, openedOf}
 use Rattle.parts.specs.Frames.{Past, Only}
 use Rattle.parts.specs.Driven.{Driven}
-use Rattle.parts.proofs.Fields.{Agree, agree-past, agree-set, agree-then, agree-only, agree-above, outbox-same, numbers-same, handoff-same, section-same}
+use Rattle.parts.proofs.Fields.{Agree, agree-past, agree-set, agree-then, agree-only, outbox-same, numbers-same, handoff-same, section-same}
 use Rattle.parts.proofs.After.{Kept, other, after, agree-all}
 use Rattle.parts.proofs.Drives.{leaves, changes, refuses}
 use Rattle.link_numbers.specs.Sets.{Rising}

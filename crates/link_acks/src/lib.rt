@@ -1,16 +1,14 @@
 // Reports, acks and keepalives on the parts of a session, in place: the driver's calls on the session that they are.
 ghost use mathlib.Core.Path.{_≡_};
-ghost use mathlib.Core.Bool.{Bool, true, false, _&&_, _||_};
-ghost use mathlib.Core.List.{List};
-ghost use Prim.Native.Nat.{ℕ, _≤_, _<_};
-ghost use lib.Ieee.{Float};
+ghost use mathlib.Core.Bool.{true, false, _&&_, _||_};
+ghost use Prim.Native.Nat.{_≤_, _<_};
 ghost use lib.ListN.{length};
 ghost use lib.Dec.{leb, eqb};
 ghost use Rattle.rules.specs.Lists.{Bytes};
 ghost use Rattle.rules.specs.Calls.{reports, gets-ack, gets-keepalive};
 ghost use Rattle.session.specs.Promise.{CalledWithList, CalledWithStores, ToldWithList};
 ghost use Rattle.acks.specs.Reports.{fullOf, MayRetry};
-ghost use Rattle.parts.specs.Parts.{parts, at, flag, retryIn, openedOf};
+ghost use Rattle.parts.specs.Parts.{parts, flag, retryIn};
 ghost use Rattle.parts.specs.Driven.{Driven, DrivenTold};
 ghost use Rattle.link_numbers.specs.Sets.{Rising, Set};
 ghost use Rattle.link_acks.specs.Reports.{Enters, Fit, Reported, AckReported};
@@ -162,6 +160,13 @@ pub fn keepalive(
 
 // ---- an ack
 
+// A slice of an array tells a proof the array's length.
+fn full_halves(halves: &Halves)
+    ensures { λ _. ⌜ length (now (halves .entry)) ≡ 772 ⌝ }
+{
+    let s: &[u32] = halves;
+}
+
 // The tests of an ack, in their order.
 fn ack_enters(
     words: &Words,
@@ -192,7 +197,7 @@ fn ack_enters(
     Stop::No
 }
 
-// Whether an ack is in range and lists nothing but code 3, so that it is done in place.
+// Whether an ack is in range, in Raw mode, and no rejection waits for it: such a one is done in place.
 fn plain_ack(words: &Words, bytes: &Bytes, number: u64) -> bool
     ensures { λ r. ⌜ (r ≡ true → Plain (now (words .entry)) (now (bytes .entry)) number) ⌝ }
 {
@@ -294,7 +299,14 @@ pub fn ack(
 ) -> LinkAnswer
     ensures { λ x. ⌜ Driven (parts (now (words .entry)) (now (halves .entry)) (now (bytes .entry)) (now (clock .entry))) (parts (now (words .exit)) (now (halves .exit)) (now (bytes .exit)) (now (clock .exit))) x (λ s y. CalledWithStores (gets-ack number) s (now (list .entry)) (now (outbound .entry)) (now (queue .entry)) y (now (list .exit)) (now (outbound .exit)) (now (queue .exit))) ⌝ }
 {
-    let stop = ack_enters(words, halves, bytes, list.len(), outbound.len(), queue.len());
+    let stop = ack_enters(
+        words,
+        halves,
+        bytes,
+        list.len(),
+        outbound.len(),
+        queue.len(),
+    );
     match stop {
         Stop::By(x) => link_codes::refusal(x),
         Stop::No => {

@@ -47,16 +47,16 @@ full-halves-requires c κs = search needs
 -- src/lib.rt:165:1
 returns-6 : tie.Need-returns-6
 returns-6 c = λ t. (
-    record {
-      sound = sym (c .before .before .before .before .sound .ensures t .is) ∙ not-false _ (c .before .before .before .if4 .left);
-      full = c .before .before .before .before .sound .ensures t .full;
-      halves = c .full-halves .ensures;
-      list = c .before .before .before .before .before .before .before .if1 .left;
-      outbound = c .before .before .before .before .before .before .if2 .left;
-      low = c .before .if5 .left;
-    },
-    c .before .before .before .before .before .if3 .left,
-  )
+  record {
+    sound = sym (c .before .before .before .before .sound .ensures t .is) ∙ not-false _ (c .before .before .before .if4 .left);
+    full = c .before .before .before .before .sound .ensures t .full;
+    halves = c .full-halves .ensures;
+    list = c .before .before .before .before .before .before .before .if1 .left;
+    outbound = c .before .before .before .before .before .before .if2 .left;
+    low = c .before .if5 .left;
+  },
+  c .before .before .before .before .before .if3 .left,
+)
 
 pub ack-enters-spec : {M : Type 1} → statement M
 ack-enters-spec =

@@ -1,7 +1,7 @@
 use native.Mathlib.Omega.{arith}
 use mathlib.Core.Path.{sym, _∙_}
 use borrow.Author.Tests.{not-true, not-false}
-use Rattle.link_acks.proofs.Keepalives.{told-short, told-unsound, told, retries, room}
+use Rattle.link_acks.proofs.Keepalives.{told-short, told-unsound, told, retries}
 use borrow.Author.Needs.{needs}
 use Rattle.link_acks.proofs.keepalive.Statement.{statement}
 use Rattle.link_acks.proofs.keepalive.Tie as tie
