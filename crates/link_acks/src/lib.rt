@@ -160,10 +160,7 @@ pub fn keepalive(
 
 // ---- an ack
 
-// A slice of an array tells a proof the array's length.
-fn full_halves(halves: &Halves)
-    ensures { λ _. ⌜ length (now (halves .entry)) ≡ 772 ⌝ }
-{
+
     let s: &[u32] = halves;
 }
 
