@@ -160,10 +160,6 @@ pub fn keepalive(
 
 // ---- an ack
 
-
-    let s: &[u32] = halves;
-}
-
 // The tests of an ack, in their order.
 fn ack_enters(
     words: &Words,
