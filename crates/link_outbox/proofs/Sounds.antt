@@ -249,7 +249,7 @@ pub take-total : (f : ℕ → Unacked) (n : ℕ) → n ≤ 256 → total lenU (t
 take-total f n h = ap (total lenU) (take-seats n 256 f h)
 
 -- flags do not matter
-total-same : (n : ℕ) (f g : ℕ → Unacked) → ((i : ℕ) → f i .len ≡ g i .len) → total lenU (seats n f) ≡ total lenU (seats n g)
+pub total-same : (n : ℕ) (f g : ℕ → Unacked) → ((i : ℕ) → f i .len ≡ g i .len) → total lenU (seats n f) ≡ total lenU (seats n g)
 unfolding total seats
 total-same zero f g e = refl
 total-same (suc n) f g e = omega (arith, e 0, total-same n (λ i. f (suc i)) (λ i. g (suc i)) (λ i. e (suc i)))
