@@ -20,6 +20,10 @@ unfoldable pub falls : ℕ → List Unacked → ℕ
 falls last [] = 0
 falls last (u ∷ us) = fall last (u .number) + falls (u .number) us
 
+-- n numbers follow one another from the first on
+abbrev pub Steps : List ℕ → ℕ → ℕ → Type 0
+Steps h first n = (i : ℕ) → i < n → at h i ≡ first + i
+
 -- a length, or one more than bodies may have in all: 256 of these fit 32 bits
 abbrev pub cap : ℕ → ℕ
 cap n = if leb n 65536 then n else 65537

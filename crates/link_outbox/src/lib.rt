@@ -1,7 +1,7 @@
 // The unacked messages of a session that C lends, worked on where they lie. Numbers and pending flags start at index 0 of their parts.
 ghost use mathlib.Core.Path.{_≡_};
 ghost use mathlib.Core.Bool.{Bool, true, false, not, _&&_, _||_};
-ghost use lib.Dec.{leb, ltb};
+ghost use lib.Dec.{eqb, leb, ltb};
 ghost use mathlib.Core.List.{List, _∷_, []};
 ghost use Prim.Native.Nat.{ℕ, _+_, _*_, _≤_, _<_};
 ghost use lib.ListN.{length, take, drop, set};
@@ -16,7 +16,7 @@ ghost use Rattle.outbox.specs.View.{usedU, ExactOutbox};
 ghost use Rattle.outbox.specs.Records.{placeU};
 ghost use Rattle.outbox.specs.Steps.{Room, Replays};
 ghost use Rattle.link_outbox.specs.Steps.{Joins, Marks, Frees, Drops, Lowered, Shifted, Front, freed, Sends};
-ghost use Rattle.link_outbox.specs.Tests.{fall, falls, cap, capU, low, stayer, Bounded, Sought};
+ghost use Rattle.link_outbox.specs.Tests.{fall, falls, Steps, cap, capU, low, stayer, Bounded, Sought};
 use outbox::Place;
 use parts::Bytes;
 use parts::Halves;
@@ -81,6 +81,44 @@ fn falls_of(halves: &Halves, count: usize) -> u32
     sum
 }
 
+fn same_of(a: u32, b: u32) -> u32
+    ensures { λ r. ⌜ r ≡ (if eqb a b then 1 else 0) ⌝ }
+{
+    if a == b {
+        return 1;
+    }
+    0
+}
+
+// How many numbers are as far from the first as they stand behind it.
+fn steps_of(halves: &Halves, first: u32, count: usize) -> u32
+    requires { ⌜ (count ≤ 256) × (first + count ≤ 4294967296) ⌝ }
+    ensures { λ r. ⌜ (r ≡ count → Steps (now (halves .entry)) first count) ⌝ }
+{
+    let mut sum: u32 = 0;
+    let mut i = 0;
+    while i < count {
+        sum += same_of(halves[i], first + i as u32);
+        i += 1;
+    }
+    sum
+}
+
+// The same as falls_of: numbers that follow one another are mostly there, and seen sooner.
+fn falls_in(halves: &Halves, count: usize) -> u32
+    requires { ⌜ (0 < count) × (count ≤ 256) ⌝ }
+    ensures { λ r. ⌜ ((b : List ℕ) → r ≡ falls (at (now (halves .entry)) 0) (slice 1 count (seats 256 (unackedAt (now (halves .entry)) b)))) ⌝ }
+{
+    let first = halves[0];
+    if 4294967296 - (count as u64) < wide(first) {
+        return falls_of(halves, count);
+    }
+    if size(steps_of(halves, first, count)) == count {
+        return 0;
+    }
+    falls_of(halves, count)
+}
+
 fn cap_of(len: u32) -> u32
     ensures { λ r. ⌜ r ≡ cap len ⌝ }
 {
@@ -128,7 +166,7 @@ pub fn sound(words: &Words, halves: &Halves) -> bool
     if next <= wide(halves[count - 1]) {
         return false;
     }
-    if 0 < falls_of(halves, count) {
+    if 0 < falls_in(halves, count) {
         return false;
     }
     if 65536 < capped(halves, count) {
