@@ -413,13 +413,7 @@ fn count_if(stays: bool, n: usize) -> usize
 }
 
 // Records go and stay in any order: one pass, and the freed tail is cleared once.
-fn sweep(
-    words: &mut Words,
-    halves: &mut Halves,
-    bytes: &mut Bytes,
-    store: &mut [u8],
-    ack: u64,
-)
+fn sweep(words: &mut Words, halves: &mut Halves, bytes: &mut Bytes, store: &mut [u8], ack: u64)
     requires { ⌜ ExactOutbox (outboxIn (now words) (now halves) (now bytes)) (length (now store)) ⌝ }
     ensures { λ _. ⌜ Drops ack (now (words .entry)) (now (halves .entry)) (now (bytes .entry)) (now (store .entry)) (now (words .exit)) (now (halves .exit)) (now (bytes .exit)) (now (store .exit)) ⌝ }
 {
