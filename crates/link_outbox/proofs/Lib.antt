@@ -5,4 +5,5 @@ pub mod Appends
 pub mod Marks
 pub mod Frees
 pub mod Sweeps
+pub mod Fronts
 pub mod Places

@@ -8,8 +8,8 @@ use native.Mathlib.Nat.{eq-or-lt-of-le}
 use mathlib.Core.Logic.{_⊎_, ⊎-elim}
 use lib.ListN.{length, take, getD}
 use lib.Seq.{slice, getD-take, length-take-le}
-use lib.Dec.{ltb, leb}
-use borrow.Author.Tests.{le-leb, lt-leb, lt-ltb, le-ltb, ltb-true, leb-true}
+use lib.Dec.{eqb, ltb, leb}
+use borrow.Author.Tests.{le-leb, lt-leb, lt-ltb, le-ltb, ltb-true, leb-true, eq-eqb, ne-eqb, eqb-true}
 use Rattle.rules.specs.Lists.{if_then_else_, all, total, rising}
 use Rattle.rules.proofs.Lists.{and-left, and-right, and-both, both}
 use Rattle.stores.proofs.Packs.{slice-none}
@@ -22,7 +22,7 @@ use Rattle.outbox.proofs.View.{SoundU, sound-facts, facts-sound}
 use Rattle.parts.specs.Seats.{seats}
 use Rattle.parts.specs.Parts.{at, unackedAt, outboxIn}
 use Rattle.parts.proofs.Seats.{length-seats, getD-seats, take-seats, slice-seats}
-use Rattle.link_outbox.specs.Tests.{fall, falls, cap, capU, Bounded}
+use Rattle.link_outbox.specs.Tests.{fall, falls, Steps, cap, capU, Bounded}
 
 -- ---- numbers that rise
 
@@ -157,6 +157,56 @@ falls-more h b i n sum r t few k e s =
     ap (λ (j : ℕ). falls (at h j) (slice (i + 1) n (seats 256 (unackedAt h b)))) z in
     omega (arith, falls-step (unackedAt h b) i n (at h (i - 1)) k few)
 
+-- ---- numbers that follow one another
+
+pub same-one : (a b : ℕ) → a ≡ b → _≡_ {A = ℕ} 1 (if eqb a b then 1 else 0)
+same-one a b h = sym (ap (λ (t : Bool). if t then 1 else 0) (eq-eqb a b h))
+
+pub same-none : (a b : ℕ) → (a ≡ b → ⊥) → _≡_ {A = ℕ} 0 (if eqb a b then 1 else 0)
+same-none a b h = sym (ap (λ (t : Bool). if t then 1 else 0) (ne-eqb a b h))
+
+pub same-few : (a b : ℕ) → (if eqb a b then 1 else 0) ≤ 1
+same-few a b = go (eqb a b)
+  where
+    go : (t : Bool) → (if t then 1 else 0) ≤ 1
+    go true = omega arith
+    go false = omega arith
+
+same-is : (a b : ℕ) → _≡_ {A = ℕ} (if eqb a b then 1 else 0) 1 → a ≡ b
+same-is a b h = go (eqb a b) (eqb-true a b) h
+  where
+    go : (t : Bool) → (t ≡ true → a ≡ b) → _≡_ {A = ℕ} (if t then 1 else 0) 1 → a ≡ b
+    go true f e = f refl
+    go false f e = absurd (omega arith)
+
+pub steps-more : (h : List ℕ) (first i sum r : ℕ) → sum ≤ i → (sum ≡ i → Steps h first i) → r ≡ (if eqb (at h i) (first + i) then 1 else 0)
+    → sum + r ≡ i + 1 → Steps h first (i + 1)
+steps-more h first i sum r few so e all j k =
+    let o : r ≤ 1 = omega (arith, same-few (at h i) (first + i)) in
+    let here : at h i ≡ first + i = same-is (at h i) (first + i) (sym e ∙ one o) in
+    let s : Steps h first i = so (omega arith) in
+    ⊎-elim (λ (x : j ≡ i). ap (at h) x ∙ here ∙ ap (λ (n : ℕ). first + n) (sym x)) (λ (x : j < i). s j x) (eq-or-lt-of-le (upto j k))
+  where
+    one : r ≤ 1 → r ≡ 1
+    one o = omega arith
+
+    upto : (j : ℕ) → j < i + 1 → j ≤ i
+    upto j k = omega arith
+
+pub steps-all : (h : List ℕ) (first i n sum : ℕ) → i ≤ n → n ≤ i → (sum ≡ i → Steps h first i) → sum ≡ n → Steps h first n
+steps-all h first i n sum p q so e j k = so (omega arith) j (omega arith)
+
+-- they rise
+pub steps-rise : (h b : List ℕ) (first n : ℕ) → n ≤ 256 → Steps h first n → (m i : ℕ) → 1 ≤ i → i + m ≡ n
+    → falls (at h (i - 1)) (slice i n (seats 256 (unackedAt h b))) ≡ 0
+steps-rise h b first n few s zero i one e = falls-end (unackedAt h b) i n (at h (i - 1)) (omega arith)
+steps-rise h b first n few s (suc m) i one e =
+    let z : i + 1 - 1 ≡ i = omega arith in
+    let l : at h (i - 1) < at h i = omega (arith, s (i - 1) (omega arith), s i (omega arith)) in
+    let r : falls (at h (i + 1 - 1)) (slice (i + 1) n (seats 256 (unackedAt h b))) ≡ 0 = steps-rise h b first n few s m (i + 1) (omega arith) (omega arith) in
+    let q : falls (at h i) (slice (i + 1) n (seats 256 (unackedAt h b))) ≡ 0 = sym (ap (λ (j : ℕ). falls (at h j) (slice (i + 1) n (seats 256 (unackedAt h b)))) z) ∙ r in
+    omega (arith, falls-step (unackedAt h b) i n (at h (i - 1)) (omega arith) few, fall-none (at h (i - 1)) (at h i) l)
+
 -- ---- the tests
 
 pub not-sound : (x : Outbox) → (SoundU x → ⊥) → false ≡ soundOutbox x
@@ -249,7 +299,7 @@ pub take-total : (f : ℕ → Unacked) (n : ℕ) → n ≤ 256 → total lenU (t
 take-total f n h = ap (total lenU) (take-seats n 256 f h)
 
 -- flags do not matter
-total-same : (n : ℕ) (f g : ℕ → Unacked) → ((i : ℕ) → f i .len ≡ g i .len) → total lenU (seats n f) ≡ total lenU (seats n g)
+pub total-same : (n : ℕ) (f g : ℕ → Unacked) → ((i : ℕ) → f i .len ≡ g i .len) → total lenU (seats n f) ≡ total lenU (seats n g)
 unfolding total seats
 total-same zero f g e = refl
 total-same (suc n) f g e = omega (arith, e 0, total-same n (λ i. f (suc i)) (λ i. g (suc i)) (λ i. e (suc i)))

@@ -5,13 +5,16 @@ use mathlib.Core.Path.{_≡_}
 use mathlib.Core.Bool.{Bool, true, false}
 use mathlib.Core.List.{List, _∷_}
 use lib.ListN.{length, set}
-use Rattle.rules.specs.Lists.{Bytes, if_then_else_, kept}
+use lib.Seq.{slice}
+use Rattle.rules.specs.Lists.{Bytes, if_then_else_, kept, total}
 use Rattle.rules.specs.Acks.{survives, sent}
 use Rattle.outbox.specs.declared.Unacked.{Unacked}
-use Rattle.outbox.specs.View.{unackedOf}
+use Rattle.outbox.specs.View.{unackedOf, usedU}
 use Rattle.outbox.specs.Steps.{Appended, Left, Flagged, Releases, SentIf}
-use Rattle.parts.specs.Parts.{at, outboxIn}
+use Rattle.parts.specs.Seats.{seats}
+use Rattle.parts.specs.Parts.{at, unackedAt, outboxIn}
 use Rattle.parts.specs.Frames.{Past}
+use Rattle.link_outbox.specs.Tests.{stayer}
 
 -- a message joins: o, o′ are the store
 pub record Joins (w h b : List ℕ) (o body : Bytes) (w′ h′ b′ : List ℕ) (o′ : Bytes) : Type 0 where
@@ -36,6 +39,24 @@ pub record Drops (ack : ℕ) (w h b : List ℕ) (o : Bytes) (w′ h′ b′ : Li
   pub words : w′ ≡ set w 1 (length (kept (survives ack) (unackedOf (outboxIn w h b) o)))
   pub halves : Past 512 h h′
   pub bytes : Past 512 b b′
+
+-- the first k records go at an ack, and the others stay: as many stay as there are others, and as many of the others
+pub record Front (ack k : ℕ) (w h b : List ℕ) : Type 0 where
+  pub all : k + total (stayer ack) (usedU (outboxIn w h b)) ≡ at w 1
+  pub later : total (stayer ack) (slice k (at w 1) (seats 256 (unackedAt h b))) ≡ total (stayer ack) (usedU (outboxIn w h b))
+
+-- n elements are moved down from one index to another
+pub record Lowered (to from n : ℕ) (l l′ : List ℕ) : Type 0 where
+  pub size : length l′ ≡ length l
+  pub moved : (i : ℕ) → i < n → at l′ (to + i) ≡ at l (from + i)
+  pub below : (i : ℕ) → i < to → at l′ i ≡ at l i
+  pub above : (i : ℕ) → to + n ≤ i → at l′ i ≡ at l i
+
+-- both sections, of which n elements are in use after it, move down by k
+pub record Shifted (k n : ℕ) (l l′ : List ℕ) : Type 0 where
+  pub front : (i : ℕ) → i < n → at l′ i ≡ at l (k + i)
+  pub back : (i : ℕ) → i < n → at l′ (256 + i) ≡ at l (256 + (k + i))
+  pub past : Past 512 l l′
 
 -- flags of the record at index i as a release leaves them, where it goes
 abbrev pub freed : Bool → ℕ → List ℕ → List ℕ

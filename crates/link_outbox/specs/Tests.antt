@@ -7,6 +7,7 @@ use lib.Dec.{ltb, leb}
 use Rattle.rules.specs.Lists.{if_then_else_, total}
 use Rattle.outbox.specs.declared.Unacked.{Unacked}
 use Rattle.outbox.specs.View.{lenU}
+use Rattle.outbox.specs.Records.{survivesU}
 use Rattle.parts.specs.Seats.{seats}
 use Rattle.parts.specs.Parts.{at, unackedAt}
 
@@ -19,12 +20,24 @@ unfoldable pub falls : ℕ → List Unacked → ℕ
 falls last [] = 0
 falls last (u ∷ us) = fall last (u .number) + falls (u .number) us
 
+-- n numbers follow one another from the first on
+abbrev pub Steps : List ℕ → ℕ → ℕ → Type 0
+Steps h first n = (i : ℕ) → i < n → at h i ≡ first + i
+
 -- a length, or one more than bodies may have in all: 256 of these fit 32 bits
 abbrev pub cap : ℕ → ℕ
 cap n = if leb n 65536 then n else 65537
 
 abbrev pub capU : Unacked → ℕ
 capU u = cap (u .len)
+
+-- a number, or the greatest that 32 bits hold
+abbrev pub low : ℕ → ℕ
+low n = if leb n 4294967295 then n else 4294967295
+
+-- 1 where a record stays at an ack
+abbrev pub stayer : ℕ → Unacked → ℕ
+stayer ack u = if survivesU ack u then 1 else 0
 
 -- the lengths of n records of the halves h are those of bodies within the store; flags do not matter
 pub record Bounded (h : List ℕ) (n : ℕ) : Type 0 where

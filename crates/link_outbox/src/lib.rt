@@ -1,7 +1,7 @@
 // The unacked messages of a session that C lends, worked on where they lie. Numbers and pending flags start at index 0 of their parts.
 ghost use mathlib.Core.Path.{_≡_};
 ghost use mathlib.Core.Bool.{Bool, true, false, not, _&&_, _||_};
-ghost use lib.Dec.{leb, ltb};
+ghost use lib.Dec.{eqb, leb, ltb};
 ghost use mathlib.Core.List.{List, _∷_, []};
 ghost use Prim.Native.Nat.{ℕ, _+_, _*_, _≤_, _<_};
 ghost use lib.ListN.{length, take, drop, set};
@@ -15,8 +15,8 @@ ghost use Rattle.parts.specs.Parts.{at, flag, outboxIn, unackedAt};
 ghost use Rattle.outbox.specs.View.{usedU, ExactOutbox};
 ghost use Rattle.outbox.specs.Records.{placeU};
 ghost use Rattle.outbox.specs.Steps.{Room, Replays};
-ghost use Rattle.link_outbox.specs.Steps.{Joins, Marks, Frees, Drops, freed, Sends};
-ghost use Rattle.link_outbox.specs.Tests.{fall, falls, cap, capU, Bounded, Sought};
+ghost use Rattle.link_outbox.specs.Steps.{Joins, Marks, Frees, Drops, Lowered, Shifted, Front, freed, Sends};
+ghost use Rattle.link_outbox.specs.Tests.{fall, falls, Steps, cap, capU, low, stayer, Bounded, Sought};
 use outbox::Place;
 use parts::Bytes;
 use parts::Halves;
@@ -50,6 +50,44 @@ fn falls_of(halves: &Halves, count: usize) -> u32
         i += 1;
     }
     sum
+}
+
+fn same_of(a: u32, b: u32) -> u32
+    ensures { λ r. ⌜ r ≡ (if eqb a b then 1 else 0) ⌝ }
+{
+    if a == b {
+        return 1;
+    }
+    0
+}
+
+// How many numbers are as far from the first as they stand behind it.
+fn steps_of(halves: &Halves, first: u32, count: usize) -> u32
+    requires { ⌜ (count ≤ 256) × (first + count ≤ 4294967296) ⌝ }
+    ensures { λ r. ⌜ (r ≡ count → Steps (now (halves .entry)) first count) ⌝ }
+{
+    let mut sum: u32 = 0;
+    let mut i = 0;
+    while i < count {
+        sum += same_of(halves[i], first + i as u32);
+        i += 1;
+    }
+    sum
+}
+
+// The same as falls_of: numbers that follow one another are mostly there, and seen sooner.
+fn falls_in(halves: &Halves, count: usize) -> u32
+    requires { ⌜ (0 < count) × (count ≤ 256) ⌝ }
+    ensures { λ r. ⌜ ((b : List ℕ) → r ≡ falls (at (now (halves .entry)) 0) (slice 1 count (seats 256 (unackedAt (now (halves .entry)) b)))) ⌝ }
+{
+    let first = halves[0];
+    if 4294967296 - (count as u64) < wide(first) {
+        return falls_of(halves, count);
+    }
+    if size(steps_of(halves, first, count)) == count {
+        return 0;
+    }
+    falls_of(halves, count)
 }
 
 fn cap_of(len: u32) -> u32
@@ -99,7 +137,7 @@ pub fn sound(words: &Words, halves: &Halves) -> bool
     if next <= wide(halves[count - 1]) {
         return false;
     }
-    if 0 < falls_of(halves, count) {
+    if 0 < falls_in(halves, count) {
         return false;
     }
     if 65536 < capped(halves, count) {
@@ -345,14 +383,8 @@ fn count_if(stays: bool, n: usize) -> usize
     n
 }
 
-// The Rust's `acknowledge`: messages up to ack go, except those pending or unsent. One pass; the freed tail is cleared once.
-pub fn acknowledge(
-    words: &mut Words,
-    halves: &mut Halves,
-    bytes: &mut Bytes,
-    store: &mut [u8],
-    ack: u64,
-)
+// Records go and stay in any order: one pass, and the freed tail is cleared once.
+fn sweep(words: &mut Words, halves: &mut Halves, bytes: &mut Bytes, store: &mut [u8], ack: u64)
     requires { ⌜ ExactOutbox (outboxIn (now words) (now halves) (now bytes)) (length (now store)) ⌝ }
     ensures { λ _. ⌜ Drops ack (now (words .entry)) (now (halves .entry)) (now (bytes .entry)) (now (store .entry)) (now (words .exit)) (now (halves .exit)) (now (bytes .exit)) (now (store .exit)) ⌝ }
 {
@@ -383,6 +415,133 @@ pub fn acknowledge(
     }
     stores::clear(store, to, from);
     words[parts::UNACKED] = k as u64;
+}
+
+// ---- an ack that lets the oldest messages go
+
+// 1 where an acknowledgement leaves a record, else 0: limit is the ack, as far as 32 bits hold it.
+fn stay_of(number: u32, pending: u8, unsent: u8, limit: u32) -> u32
+    ensures { λ r. ⌜ ((ack : ℕ) → limit ≡ low ack → r ≡ (if ltb ack number || flag pending || flag unsent then 1 else 0)) ⌝ }
+{
+    if limit < number {
+        return 1;
+    }
+    if pending != 0 {
+        return 1;
+    }
+    if unsent != 0 {
+        return 1;
+    }
+    0
+}
+
+fn low_of(n: u64) -> u32
+    ensures { λ r. ⌜ r ≡ low n ⌝ }
+{
+    if n <= 4294967295 {
+        return n as u32;
+    }
+    4294967295
+}
+
+// How many records from index start on an acknowledgement leaves.
+fn staying(halves: &Halves, bytes: &Bytes, start: usize, count: usize, ack: u64) -> u32
+    requires { ⌜ (start ≤ count) × (count ≤ 256) ⌝ }
+    ensures { λ r. ⌜ r ≡ total (stayer ack) (slice start count (seats 256 (unackedAt (now (halves .entry)) (now (bytes .entry))))) ⌝ }
+{
+    let limit = low_of(ack);
+    let mut sum: u32 = 0;
+    let mut i = start;
+    while i < count {
+        sum += stay_of(halves[i], bytes[i], bytes[parts::UNSENT + i], limit);
+        i += 1;
+    }
+    sum
+}
+
+// Moves the n halves at index from down to index to.
+fn lower_halves(halves: &mut Halves, to: usize, from: usize, n: usize)
+    requires { ⌜ (to ≤ from) × (from + n ≤ 512) ⌝ }
+    ensures { λ _. ⌜ Lowered to from n (now (halves .entry)) (now (halves .exit)) ⌝ }
+{
+    full_halves(halves);
+    let mut i = 0;
+    while i < n {
+        let x = halves[from + i];
+        halves[to + i] = x;
+        i += 1;
+    }
+}
+
+// Moves the n bytes at index from down to index to.
+fn lower_bytes(bytes: &mut Bytes, to: usize, from: usize, n: usize)
+    requires { ⌜ (to ≤ from) × (from + n ≤ 512) ⌝ }
+    ensures { λ _. ⌜ Lowered to from n (now (bytes .entry)) (now (bytes .exit)) ⌝ }
+{
+    full_bytes(bytes);
+    let mut i = 0;
+    while i < n {
+        let x = bytes[from + i];
+        bytes[to + i] = x;
+        i += 1;
+    }
+}
+
+// The n records from index k on move down to index 0.
+fn lower_records(halves: &mut Halves, bytes: &mut Bytes, k: usize, n: usize)
+    requires { ⌜ k + n ≤ 256 ⌝ }
+    ensures { λ _. ⌜ Shifted k n (now (halves .entry)) (now (halves .exit)) × Shifted k n (now (bytes .entry)) (now (bytes .exit)) ⌝ }
+{
+    lower_halves(halves, 0, k, n);
+    lower_halves(halves, parts::UNACKED_LENS, parts::UNACKED_LENS + k, n);
+    lower_bytes(bytes, 0, k, n);
+    lower_bytes(bytes, parts::UNSENT, parts::UNSENT + k, n);
+}
+
+// The first k messages go: what is left moves down at once.
+fn shed(words: &mut Words, halves: &mut Halves, bytes: &mut Bytes, store: &mut [u8], k: usize)
+    requires { ⌜ (k ≤ at (now words) 1) × ExactOutbox (outboxIn (now words) (now halves) (now bytes)) (length (now store)) ⌝ }
+    ensures { λ _. ⌜ ((ack : ℕ) → Front ack k (now (words .entry)) (now (halves .entry)) (now (bytes .entry)) → Drops ack (now (words .entry)) (now (halves .entry)) (now (bytes .entry)) (now (store .entry)) (now (words .exit)) (now (halves .exit)) (now (bytes .exit)) (now (store .exit))) ⌝ }
+{
+    full_words(words);
+    full_halves(halves);
+    full_bytes(bytes);
+    let count = words[parts::UNACKED] as usize;
+    let from = used(halves, k);
+    let end = used(halves, count);
+    let to = end - from;
+    let left = count - k;
+    stores::move_down(store, 0, from, to);
+    stores::clear(store, to, end);
+    lower_records(halves, bytes, k, left);
+    words[parts::UNACKED] = left as u64;
+}
+
+// The Rust's `acknowledge`: messages up to ack go, except those pending or unsent. Mostly these are the oldest: as many stay as stay of the last ones.
+pub fn acknowledge(
+    words: &mut Words,
+    halves: &mut Halves,
+    bytes: &mut Bytes,
+    store: &mut [u8],
+    ack: u64,
+)
+    requires { ⌜ ExactOutbox (outboxIn (now words) (now halves) (now bytes)) (length (now store)) ⌝ }
+    ensures { λ _. ⌜ Drops ack (now (words .entry)) (now (halves .entry)) (now (bytes .entry)) (now (store .entry)) (now (words .exit)) (now (halves .exit)) (now (bytes .exit)) (now (store .exit)) ⌝ }
+{
+    full_words(words);
+    full_halves(halves);
+    full_bytes(bytes);
+    let count = words[parts::UNACKED] as usize;
+    let stay = staying(halves, bytes, 0, count, ack);
+    let gone = count - size(stay);
+    if gone == 0 {
+        return;
+    }
+    if staying(halves, bytes, gone, count, ack) == stay {
+        shed(words, halves, bytes, store, gone);
+        return;
+    }
+    sweep(words, halves, bytes, store, ack);
 }
 
 // ---- a fetch

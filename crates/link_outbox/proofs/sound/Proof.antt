@@ -7,8 +7,13 @@ use Rattle.link_outbox.proofs.sound.Tie as tie
 use Rattle.link_outbox.proofs.sound.Reads as reads
 use Rattle.link_outbox.proofs.sound.Lts as lts
 use Rattle.link_outbox.proofs.capped.Reads as capped-reads
+<<<<<<< HEAD
 use Rattle.link_outbox.proofs.falls_of.Reads as falls-of-reads
 use Rattle.parts.proofs.wide.Reads as wide-reads
+=======
+use Rattle.link_outbox.proofs.falls_in.Reads as falls-in-reads
+use Rattle.parts.proofs.wide.Reads as wide-reads
+>>>>>>> wj
 
 -- src/lib.rt:74:16
 element-copy-out-next : tie.Need-element-copy-out-next
@@ -63,12 +68,12 @@ returns-6 : tie.Need-returns-6
 returns-6 c = λ b. not-sound (outboxIn (c .before .before .before .before .before .before .before .before .before .before .before .args .words .now) (c .before .before .before .before .before .before .before .before .before .before .before .args .halves .now) b) (λ s. omega (arith, c .before .wide .ensures, last-below (c .before .before .before .before .before .before .before .before .before .before .before .args .words .now) (c .before .before .before .before .before .before .before .before .before .before .before .args .halves .now) b s (omega arith)))
 
 -- src/lib.rt:95:12
-falls-of-requires : tie.Need-falls-of-requires
-falls-of-requires c κs = search needs
+falls-in-requires : tie.Need-falls-in-requires
+falls-in-requires c κs = search needs
 
 -- src/lib.rt:96:9
 returns-7 : tie.Need-returns-7
-returns-7 c = λ b. not-sound (outboxIn (c .before .before .before .before .before .before .before .before .before .before .before .before .before .args .words .now) (c .before .before .before .before .before .before .before .before .before .before .before .before .before .args .halves .now) b) (λ s. omega (arith, c .before .falls-of .ensures b, no-falls (c .before .before .before .before .before .before .before .before .before .before .before .before .before .args .words .now) (c .before .before .before .before .before .before .before .before .before .before .before .before .before .args .halves .now) b s (omega arith)))
+returns-7 c = λ b. not-sound (outboxIn (c .before .before .before .before .before .before .before .before .before .before .before .before .before .args .words .now) (c .before .before .before .before .before .before .before .before .before .before .before .before .before .args .halves .now) b) (λ s. omega (arith, c .before .falls-in .ensures b, no-falls (c .before .before .before .before .before .before .before .before .before .before .before .before .before .args .words .now) (c .before .before .before .before .before .before .before .before .before .before .before .before .before .args .halves .now) b s (omega arith)))
 
 -- src/lib.rt:98:16
 capped-requires : tie.Need-capped-requires
@@ -80,7 +85,7 @@ returns-8 c = λ b. not-sound (outboxIn (c .before .before .before .before .befo
 
 -- src/lib.rt:71:1
 returns-9 : tie.Need-returns-9
-returns-9 c = λ b. sound-all (c .before .before .before .before .before .before .before .before .before .before .before .before .before .before .before .args .words .now) (c .before .before .before .before .before .before .before .before .before .before .before .before .before .before .before .args .halves .now) b (omega arith) (omega arith) (omega arith) (omega arith) (omega arith) (omega arith) (omega (arith, c .before .before .before .falls-of .ensures b)) (omega (arith, c .before .capped .ensures b))
+returns-9 c = λ b. sound-all (c .before .before .before .before .before .before .before .before .before .before .before .before .before .before .before .args .words .now) (c .before .before .before .before .before .before .before .before .before .before .before .before .before .before .before .args .halves .now) b (omega arith) (omega arith) (omega arith) (omega arith) (omega arith) (omega arith) (omega (arith, c .before .before .before .falls-in .ensures b)) (omega (arith, c .before .capped .ensures b))
 
 pub sound-spec : {M : Type 1} → statement M
 sound-spec =
@@ -99,7 +104,7 @@ sound-spec =
     element-copy-out-wide
     wide-requires
     returns-6
-    falls-of-requires
+    falls-in-requires
     returns-7
     capped-requires
     returns-8
