@@ -1,14 +1,14 @@
 -- An ack that lets the oldest messages go, and nothing else: they are dropped at once. Assumes nothing.
 use mathlib.Core.Path.{_≡_, refl, sym, ap, _∙_, subst}
-use mathlib.Core.Bool.{Bool, true, false, _||_}
+use mathlib.Core.Bool.{Bool, true, false}
 use mathlib.Core.List.{List, [], _∷_, _++_, append-nil}
-use mathlib.Core.Logic.{_⊎_, ⊎-elim}
-use Prim.Native.Nat.{ℕ, zero, suc, _+_, _-_, _≤_, _<_}
+use mathlib.Core.Logic.{⊎-elim}
+use Prim.Native.Nat.{ℕ, suc, _+_, _-_, _≤_, _<_}
 use native.Mathlib.Omega.{arith}
 use native.Mathlib.Nat.{eq-or-lt-of-le, zero-add}
-use lib.ListN.{length, take, drop, getD, set, replicate, length-append, length-take, length-drop, length-set, take-append-drop}
+use lib.ListN.{length, take, drop, set, replicate, length-append, length-take, length-drop, length-set, take-append-drop}
 use lib.Seq.{slice, getD-set-same, getD-set-other, getD-drop, set-getD, take-take}
-use lib.Dec.{ltb, leb}
+use lib.Dec.{leb}
 use borrow.Author.Tests.{le-leb, lt-leb, leb-false}
 use Rattle.stores.specs.Packed.{cut}
 use Rattle.stores.specs.Placed.{placed}
@@ -19,19 +19,17 @@ use Rattle.rules.specs.State as R
 use Rattle.rules.specs.Acks.{survives}
 use Rattle.rules.proofs.Lists.{kept-append}
 use Rattle.outbox.specs.declared.Unacked.{Unacked}
-use Rattle.outbox.specs.declared.Outbox.{Outbox}
-use Rattle.outbox.specs.View.{lenU, unacked, usedU, unackedOf, endU, blankU, ExactOutbox}
+use Rattle.outbox.specs.View.{lenU, unacked, usedU, endU, blankU, ExactOutbox}
 use Rattle.outbox.specs.Records.{survivesU}
 use Rattle.outbox.specs.Sweeps.{left}
-use Rattle.outbox.proofs.Sweeps.{Turns, placed-same}
+use Rattle.outbox.proofs.Sweeps.{placed-same}
 use Rattle.parts.specs.Seats.{seats}
-use Rattle.parts.specs.Parts.{at, flag, unackedAt, outboxIn}
-use Rattle.parts.specs.Frames.{Past}
+use Rattle.parts.specs.Parts.{at, unackedAt, outboxIn}
 use Rattle.parts.proofs.Seats.{length-seats, seats-of, take-seats}
 use Rattle.link_outbox.specs.Tests.{low, stayer, Bounded}
 use Rattle.link_outbox.specs.Steps.{Drops, Lowered, Shifted, Front}
 use Rattle.link_outbox.proofs.Sounds.{used-at, used-length, total-same, take-total}
-use Rattle.link_outbox.proofs.Sweeps.{Sweeps, sweepIn, dropped}
+use Rattle.link_outbox.proofs.Sweeps.{Sweeps, dropped}
 
 -- ---- elements are moved down
 

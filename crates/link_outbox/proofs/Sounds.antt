@@ -1,17 +1,17 @@
 -- When the tests of `sound` pass. Assumes nothing.
 use mathlib.Core.Path.{_≡_, refl, sym, ap, _∙_}
-use mathlib.Core.Bool.{Bool, true, false, _&&_}
+use mathlib.Core.Bool.{Bool, true, false}
 use mathlib.Core.List.{List, [], _∷_}
 use Prim.Native.Nat.{ℕ, zero, suc, _+_, _-_, _≤_, _<_}
 use native.Mathlib.Omega.{arith}
 use native.Mathlib.Nat.{eq-or-lt-of-le}
-use mathlib.Core.Logic.{_⊎_, ⊎-elim}
+use mathlib.Core.Logic.{⊎-elim}
 use lib.ListN.{length, take, getD}
 use lib.Seq.{slice, getD-take, length-take-le}
-use lib.Dec.{eqb, ltb, leb}
-use borrow.Author.Tests.{le-leb, lt-leb, lt-ltb, le-ltb, ltb-true, leb-true, eq-eqb, ne-eqb, eqb-true}
+use lib.Dec.{eqb, ltb}
+use borrow.Author.Tests.{lt-ltb, le-ltb, ltb-true, eq-eqb, ne-eqb, eqb-true}
 use Rattle.rules.specs.Lists.{if_then_else_, all, total, rising}
-use Rattle.rules.proofs.Lists.{and-left, and-right, and-both, both}
+use Rattle.rules.proofs.Lists.{and-left, and-right, and-both}
 use Rattle.stores.proofs.Packs.{slice-none}
 use Rattle.outbox.specs.declared.Unacked.{Unacked}
 use Rattle.outbox.specs.declared.Outbox.{Outbox}
@@ -22,7 +22,7 @@ use Rattle.outbox.proofs.View.{SoundU, sound-facts, facts-sound}
 use Rattle.parts.specs.Seats.{seats}
 use Rattle.parts.specs.Parts.{at, unackedAt, outboxIn}
 use Rattle.parts.proofs.Seats.{length-seats, getD-seats, take-seats, slice-seats}
-use Rattle.link_outbox.specs.Tests.{fall, falls, Steps, cap, capU, Bounded}
+use Rattle.link_outbox.specs.Tests.{fall, falls, Steps, Bounded}
 
 -- ---- numbers that rise
 
@@ -90,44 +90,6 @@ unfolding all
 all-below next i [] h k = absurd (omega arith)
 all-below next zero (u ∷ us) h k = ltb-true _ _ (and-left (ltb (u .number) next) _ h)
 all-below next (suc i) (u ∷ us) h k = all-below next i us (and-right (ltb (u .number) next) _ h) (omega arith)
-
--- ---- lengths
-
-pub cap-small : (n : ℕ) → n ≤ 65536 → n ≡ cap n
-cap-small n h = sym (ap (λ (t : Bool). if t then n else 65537) (le-leb n 65536 h))
-
-pub cap-large : (n : ℕ) → 65536 < n → 65537 ≡ cap n
-cap-large n h = sym (ap (λ (t : Bool). if t then n else 65537) (lt-leb n 65536 h))
-
-pub cap-few : (n : ℕ) → cap n ≤ 65537
-cap-few n = go (leb n 65536) (λ e. leb-true n 65536 e)
-  where
-    go : (t : Bool) → (t ≡ true → n ≤ 65536) → (if t then n else 65537) ≤ 65537
-    go true f = omega (arith, f refl)
-    go false f = omega arith
-
-cap-is : (n : ℕ) → cap n ≤ 65536 → n ≡ cap n
-cap-is n h = go (leb n 65536) h
-  where
-    go : (t : Bool) → (if t then n else 65537) ≤ 65536 → n ≡ (if t then n else 65537)
-    go true e = refl
-    go false e = absurd (omega arith)
-
-capped-same : (us : List Unacked) → total capU us ≤ 65536 → total lenU us ≡ total capU us
-unfolding total
-capped-same [] h = refl
-capped-same (u ∷ us) h =
-    let a : u .len ≡ cap (u .len) = cap-is (u .len) (omega arith) in
-    let r : total lenU us ≡ total capU us = capped-same us (omega arith) in
-    omega arith
-
-same-capped : (us : List Unacked) → total lenU us ≤ 65536 → total lenU us ≡ total capU us
-unfolding total
-same-capped [] h = refl
-same-capped (u ∷ us) h =
-    let a : u .len ≡ cap (u .len) = cap-small (u .len) (omega arith) in
-    let r : total lenU us ≡ total capU us = same-capped us (omega arith) in
-    omega arith
 
 -- ---- a loop's step and its end
 
@@ -255,9 +217,6 @@ module _ (w h b : List ℕ) where
         let e : falls 0 (usedU x) ≡ fall 0 (at h 0) + falls (at h 0) (slice 1 n (seats 256 f)) = falls-step f 0 n 0 some (s .few) in
         omega (arith, falls-none 0 (usedU x) (s .order))
 
-    pub capped-small : total capU (take n (seats 256 f)) ≤ 65536
-    capped-small = omega (arith, s .small, same-capped (usedU x) (s .small))
-
   pub sound-none : 1 ≤ at w 0 → at w 0 ≤ 4294967296 → n ≡ 0 → true ≡ soundOutbox x
   unfolding rising all total
   sound-none one end none =
@@ -272,7 +231,7 @@ module _ (w h b : List ℕ) where
       }))
 
   pub sound-all : n ≤ 256 → 1 ≤ at w 0 → at w 0 ≤ 4294967296 → 0 < n → 0 < at h 0 → at h (n - 1) < at w 0
-      → falls (at h 0) (slice 1 n (seats 256 f)) ≡ 0 → total capU (take n (seats 256 f)) ≤ 65536 → true ≡ soundOutbox x
+      → falls (at h 0) (slice 1 n (seats 256 f)) ≡ 0 → total lenU (take n (seats 256 f)) ≤ 65536 → true ≡ soundOutbox x
   sound-all few one end some first last rise small =
       let e : falls 0 (usedU x) ≡ fall 0 (at h 0) + falls (at h 0) (slice 1 n (seats 256 f)) = falls-step f 0 n 0 some few in
       let up : rising numU 0 (usedU x) ≡ true = none-falls 0 (usedU x) (omega (arith, fall-none 0 (at h 0) first)) in
@@ -284,7 +243,7 @@ module _ (w h b : List ℕ) where
         end = end;
         order = up;
         below = below-all (at w 0) (usedU x) (λ i k. below-last i k up l le);
-        small = omega (arith, capped-same (usedU x) small);
+        small = small;
       }))
     where
       upto : (i : ℕ) → i < length (usedU x) → length (usedU x) ≡ n → i ≤ n - 1

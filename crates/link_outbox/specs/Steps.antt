@@ -1,14 +1,13 @@
 -- The contracts of the functions that change the unacked messages where they lie: w, h, b are the words, halves and bytes before, and w′, h′, b′ after.
 -- Assumes nothing.
-use Prim.Native.Nat.{ℕ, _+_, _*_, _≤_, _<_}
+use Prim.Native.Nat.{ℕ, _+_, _≤_, _<_}
 use mathlib.Core.Path.{_≡_}
-use mathlib.Core.Bool.{Bool, true, false}
-use mathlib.Core.List.{List, _∷_}
+use mathlib.Core.Bool.{Bool}
+use mathlib.Core.List.{List}
 use lib.ListN.{length, set}
 use lib.Seq.{slice}
 use Rattle.rules.specs.Lists.{Bytes, if_then_else_, kept, total}
 use Rattle.rules.specs.Acks.{survives, sent}
-use Rattle.outbox.specs.declared.Unacked.{Unacked}
 use Rattle.outbox.specs.View.{unackedOf, usedU}
 use Rattle.outbox.specs.Steps.{Appended, Left, Flagged, Releases, SentIf}
 use Rattle.parts.specs.Seats.{seats}

@@ -1,7 +1,6 @@
 -- The unacked messages of a lent session: what a test of them counts, and what a search finds. Assumes nothing.
 use Prim.Native.Nat.{ℕ, _+_, _≤_, _<_}
 use mathlib.Core.Path.{_≡_}
-use mathlib.Core.Bool.{Bool, true, false}
 use mathlib.Core.List.{List, [], _∷_}
 use lib.Dec.{ltb, leb}
 use Rattle.rules.specs.Lists.{if_then_else_, total}
@@ -23,13 +22,6 @@ falls last (u ∷ us) = fall last (u .number) + falls (u .number) us
 -- n numbers follow one another from the first on
 abbrev pub Steps : List ℕ → ℕ → ℕ → Type 0
 Steps h first n = (i : ℕ) → i < n → at h i ≡ first + i
-
--- a length, or one more than bodies may have in all: 256 of these fit 32 bits
-abbrev pub cap : ℕ → ℕ
-cap n = if leb n 65536 then n else 65537
-
-abbrev pub capU : Unacked → ℕ
-capU u = cap (u .len)
 
 -- a number, or the greatest that 32 bits hold
 abbrev pub low : ℕ → ℕ

@@ -16,7 +16,7 @@ ghost use Rattle.outbox.specs.View.{usedU, ExactOutbox};
 ghost use Rattle.outbox.specs.Records.{placeU};
 ghost use Rattle.outbox.specs.Steps.{Room, Replays};
 ghost use Rattle.link_outbox.specs.Steps.{Joins, Marks, Frees, Drops, Lowered, Shifted, Front, freed, Sends};
-ghost use Rattle.link_outbox.specs.Tests.{fall, falls, Steps, cap, capU, low, stayer, Bounded, Sought};
+ghost use Rattle.link_outbox.specs.Tests.{fall, falls, Steps, low, stayer, Bounded, Sought};
 use outbox::Place;
 use parts::Bytes;
 use parts::Halves;
@@ -90,24 +90,21 @@ fn falls_in(halves: &Halves, count: usize) -> u32
     falls_of(halves, count)
 }
 
-fn cap_of(len: u32) -> u32
-    ensures { λ r. ⌜ r ≡ cap len ⌝ }
+fn len_of(len: u32) -> u64
+    ensures { λ r. ⌜ (r ≡ len) × (r ≤ 4294967295) ⌝ }
 {
-    if len <= 65536 {
-        return len;
-    }
-    65537
+    len as u64
 }
 
-// The sum of the lengths, each at most 65537.
-fn capped(halves: &Halves, count: usize) -> u32
+// The sum of the lengths, whatever they are.
+fn lens_of(halves: &Halves, count: usize) -> u64
     requires { ⌜ count ≤ 256 ⌝ }
-    ensures { λ r. ⌜ ((b : List ℕ) → r ≡ total capU (take count (seats 256 (unackedAt (now (halves .entry)) b)))) ⌝ }
+    ensures { λ r. ⌜ ((b : List ℕ) → r ≡ total lenU (take count (seats 256 (unackedAt (now (halves .entry)) b)))) ⌝ }
 {
-    let mut sum: u32 = 0;
+    let mut sum: u64 = 0;
     let mut i = 0;
     while i < count {
-        sum += cap_of(halves[parts::UNACKED_LENS + i]);
+        sum += len_of(halves[parts::UNACKED_LENS + i]);
         i += 1;
     }
     sum
@@ -140,7 +137,7 @@ pub fn sound(words: &Words, halves: &Halves) -> bool
     if 0 < falls_in(halves, count) {
         return false;
     }
-    if 65536 < capped(halves, count) {
+    if 65536 < lens_of(halves, count) {
         return false;
     }
     true

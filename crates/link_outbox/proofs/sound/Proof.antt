@@ -1,19 +1,14 @@
 use native.Mathlib.Omega.{arith}
 use Rattle.parts.specs.Parts.{outboxIn}
-use Rattle.link_outbox.proofs.Sounds.{not-sound, sound-none, sound-all, first-positive, last-below, no-falls, capped-small}
+use Rattle.link_outbox.proofs.Sounds.{not-sound, sound-none, sound-all, first-positive, last-below, no-falls}
 use borrow.Author.Needs.{needs}
 use Rattle.link_outbox.proofs.sound.Statement.{statement}
 use Rattle.link_outbox.proofs.sound.Tie as tie
 use Rattle.link_outbox.proofs.sound.Reads as reads
 use Rattle.link_outbox.proofs.sound.Lts as lts
-use Rattle.link_outbox.proofs.capped.Reads as capped-reads
-<<<<<<< HEAD
-use Rattle.link_outbox.proofs.falls_of.Reads as falls-of-reads
-use Rattle.parts.proofs.wide.Reads as wide-reads
-=======
+use Rattle.link_outbox.proofs.lens_of.Reads as lens-of-reads
 use Rattle.link_outbox.proofs.falls_in.Reads as falls-in-reads
 use Rattle.parts.proofs.wide.Reads as wide-reads
->>>>>>> wj
 
 -- src/lib.rt:74:16
 element-copy-out-next : tie.Need-element-copy-out-next
@@ -76,16 +71,16 @@ returns-7 : tie.Need-returns-7
 returns-7 c = λ b. not-sound (outboxIn (c .before .before .before .before .before .before .before .before .before .before .before .before .before .args .words .now) (c .before .before .before .before .before .before .before .before .before .before .before .before .before .args .halves .now) b) (λ s. omega (arith, c .before .falls-in .ensures b, no-falls (c .before .before .before .before .before .before .before .before .before .before .before .before .before .args .words .now) (c .before .before .before .before .before .before .before .before .before .before .before .before .before .args .halves .now) b s (omega arith)))
 
 -- src/lib.rt:98:16
-capped-requires : tie.Need-capped-requires
-capped-requires c κs = search needs
+lens-of-requires : tie.Need-lens-of-requires
+lens-of-requires c κs = search needs
 
 -- src/lib.rt:99:9
 returns-8 : tie.Need-returns-8
-returns-8 c = λ b. not-sound (outboxIn (c .before .before .before .before .before .before .before .before .before .before .before .before .before .before .before .args .words .now) (c .before .before .before .before .before .before .before .before .before .before .before .before .before .before .before .args .halves .now) b) (λ s. omega (arith, c .before .capped .ensures b, capped-small (c .before .before .before .before .before .before .before .before .before .before .before .before .before .before .before .args .words .now) (c .before .before .before .before .before .before .before .before .before .before .before .before .before .before .before .args .halves .now) b s (omega arith)))
+returns-8 c = λ b. not-sound (outboxIn (c .before .before .before .before .before .before .before .before .before .before .before .before .before .before .before .args .words .now) (c .before .before .before .before .before .before .before .before .before .before .before .before .before .before .before .args .halves .now) b) (λ s. omega (arith, c .before .lens-of .ensures b, s .small))
 
 -- src/lib.rt:71:1
 returns-9 : tie.Need-returns-9
-returns-9 c = λ b. sound-all (c .before .before .before .before .before .before .before .before .before .before .before .before .before .before .before .args .words .now) (c .before .before .before .before .before .before .before .before .before .before .before .before .before .before .before .args .halves .now) b (omega arith) (omega arith) (omega arith) (omega arith) (omega arith) (omega arith) (omega (arith, c .before .before .before .falls-in .ensures b)) (omega (arith, c .before .capped .ensures b))
+returns-9 c = λ b. sound-all (c .before .before .before .before .before .before .before .before .before .before .before .before .before .before .before .args .words .now) (c .before .before .before .before .before .before .before .before .before .before .before .before .before .before .before .args .halves .now) b (omega arith) (omega arith) (omega arith) (omega arith) (omega arith) (omega arith) (omega (arith, c .before .before .before .falls-in .ensures b)) (omega (arith, c .before .lens-of .ensures b))
 
 pub sound-spec : {M : Type 1} → statement M
 sound-spec =
@@ -106,6 +101,6 @@ sound-spec =
     returns-6
     falls-in-requires
     returns-7
-    capped-requires
+    lens-of-requires
     returns-8
     returns-9)

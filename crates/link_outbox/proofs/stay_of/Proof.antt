@@ -1,10 +1,9 @@
-use mathlib.Core.Path.{_≡_, sym, ap, _∙_}
-use Prim.Native.Nat.{ℕ, _≤_, _<_}
+use mathlib.Core.Path.{_∙_}
+use Prim.Native.Nat.{_≤_}
 use native.Mathlib.Omega.{arith}
 use Rattle.parts.specs.Parts.{flag}
 use Rattle.outbox.specs.declared.Unacked.{Unacked}
 use Rattle.outbox.proofs.Flags.{survives-above, survives-pending, survives-unsent}
-use Rattle.link_outbox.specs.Tests.{low}
 use Rattle.link_outbox.proofs.Frees.{flag-clear, flag-set}
 use Rattle.link_outbox.proofs.Fronts.{low-below, low-upto, stay-in, stay-out}
 use borrow.Author.Needs.{needs}

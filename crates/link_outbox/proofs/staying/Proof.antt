@@ -1,10 +1,10 @@
-use mathlib.Core.Path.{_≡_, refl, _∙_}
-use Prim.Native.Nat.{ℕ, _+_, _-_, _≤_}
+use mathlib.Core.Path.{_≡_}
+use Prim.Native.Nat.{_+_, _-_, _≤_}
 use native.Mathlib.Omega.{arith}
 use lib.Seq.{slice}
 use Rattle.rules.specs.Lists.{total}
 use Rattle.parts.specs.Seats.{seats}
-use Rattle.parts.specs.Parts.{at, unackedAt}
+use Rattle.parts.specs.Parts.{unackedAt}
 use Rattle.link_outbox.specs.Tests.{low, stayer}
 use Rattle.link_outbox.proofs.Sounds.{total-seats, total-end}
 use Rattle.link_outbox.proofs.Fronts.{stayer-one}

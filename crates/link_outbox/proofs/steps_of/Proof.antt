@@ -1,6 +1,6 @@
-use mathlib.Core.Path.{_≡_, refl}
+use mathlib.Core.Path.{_≡_}
 use native.Mathlib.Omega.{arith}
-use Prim.Native.Nat.{ℕ, _+_, _-_, _≤_}
+use Prim.Native.Nat.{_+_, _-_, _≤_}
 use Rattle.parts.specs.Parts.{at}
 use Rattle.link_outbox.specs.Tests.{Steps}
 use Rattle.link_outbox.proofs.Sounds.{same-few, steps-more, steps-all}

@@ -1,5 +1,5 @@
 use mathlib.Core.Path.{_≡_, refl, _∙_}
-use Prim.Native.Nat.{_+_, _-_, _≤_}
+use Prim.Native.Nat.{_-_, _≤_}
 use native.Mathlib.Omega.{arith}
 use Rattle.parts.specs.Parts.{at}
 use Rattle.link_outbox.proofs.Sweeps.{Sweeps, sweeps-none, body-within, turn, dropped}
