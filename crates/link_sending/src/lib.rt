@@ -35,7 +35,7 @@ fn enters(words: &Words, halves: &Halves, bytes: &Bytes, list: usize, outbound: 
 }
 
 // `peer_session::allocate`: a message gets the next number and joins the unacked as pending, or is refused.
-fn allocate(
+pub fn allocate(
     words: &mut Words,
     halves: &mut Halves,
     bytes: &mut Bytes,
@@ -61,7 +61,7 @@ fn allocate(
 }
 
 // An array that is lent has its length.
-fn full_halves(halves: &Halves)
+pub fn full_halves(halves: &Halves)
     ensures { λ _. ⌜ length (now (halves .entry)) ≡ 772 ⌝ }
 {
     let s: &[u32] = halves;
