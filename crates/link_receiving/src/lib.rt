@@ -57,7 +57,7 @@ fn taken(events: usize) -> LinkAnswer
 }
 
 // Where the bodies of the queued frames end.
-fn used(halves: &Halves, count: usize) -> usize
+pub fn used(halves: &Halves, count: usize) -> usize
     requires { ⌜ Summing (now halves) count ⌝ }
     ensures { λ r. ⌜ r ≡ bodies (now (halves .entry)) count ⌝ }
 {

@@ -37,6 +37,50 @@ use Rattle.link_outbox.specs.Steps.{Joins}
 use Rattle.link_outbox.proofs.Records.{past-same}
 use Rattle.link_sending.specs.Sends.{Ready, Turns, Found, Enters, AllocatesIn}
 
+-- ---- a message joined and the generation is raised: the session that the parts are then
+
+-- the halves h′ with the generation of h raised
+abbrev pub raised : List ℕ → List ℕ → List ℕ
+raised h h′ = set h′ 768 (at h 768 + 1)
+
+module _ (w h b : List ℕ) (t : Float) {o body : Bytes} (lw : 1296 ≤ length w) (lb : 4936 ≤ length b) (lh : length h ≡ 772) {w′ h′ b′ : List ℕ} {o′ : Bytes} (a : AllocatesIn body w h b o No w′ h′ b′ o′) where
+  agrees : (c d : ℕ) → 512 ≤ c → (c ≤ 768 → 768 < d → ⊥) → Agree c d h (raised h h′)
+  agrees c d k out = agree-then (agree-past c d k (a .halves)) (agree-set h′ 768 (at h 768 + 1) c d out)
+
+  pub clock-raised : clockIn (raised h h′) t ≡ record { «last_replay_at» = t; generation = at h 768 + 1; released = at h 769; persisted = at h 770 }
+  clock-raised =
+      let x : at (raised h h′) 768 ≡ at h 768 + 1 = getD-set-same h′ 768 (at h 768 + 1) 0 (omega (arith, a .halves .size, lh)) in
+      let g : Agree 769 771 h (raised h h′) = agrees 769 771 (omega arith) (λ p q. omega arith) in
+      let y : at (raised h h′) 769 ≡ at h 769 = g .same 769 (omega arith) (omega arith) in
+      let z : at (raised h h′) 770 ≡ at h 770 = g .same 770 (omega arith) (omega arith) in
+      rw (x, y, z)
+
+  stays : Kept w h b w′ (raised h h′) b′
+  stays =
+      record {
+        words = a .words .size;
+        bytes = a .bytes .size;
+        remote = agree-past 2 3 (omega arith) (a .words);
+        queued = agree-past 4 5 (omega arith) (a .words);
+        rest = agree-past 7 272 (omega arith) (a .words);
+        lens = agrees 512 768 (omega arith) (λ p q. omega arith);
+        terms = agrees 771 772 (omega arith) (λ p q. omega arith);
+        codes = agree-past 512 773 (omega arith) (a .bytes);
+        bodies = agree-past 776 4936 (omega arith) (a .bytes);
+      }
+
+  pub left : openedOf (parts w′ (raised h h′) b′ t)
+      ≡ other (openedOf (parts w h b t)) (outboxIn w′ h′ b′) (at w 3) (waitingIn w) (retryIn w)
+      (record { «last_replay_at» = t; generation = at h 768 + 1; released = at h 769; persisted = at h 770 }) (handoffIn w b)
+  left =
+      after w h b w′ (raised h h′) b′ t t lb stays
+      (outbox-same (agree-all 0 2 w′) (agree-set h′ 768 (at h 768 + 1) 0 512 (λ p q. omega arith)) (agree-all 0 512 b′))
+      (a .words .same 3 (omega arith))
+      (numbers-same (omega arith) (a .words .size) (agree-past 5 (5 + 1) (omega arith) (a .words)) (agree-past 272 (272 + 512) (omega arith) (a .words)))
+      (numbers-same (omega arith) (a .words .size) (agree-past 6 (6 + 1) (omega arith) (a .words)) (agree-past 784 (784 + 512) (omega arith) (a .words)))
+      clock-raised
+      (handoff-same (omega arith) (a .bytes .size) (agree-past 7 10 (omega arith) (a .words)) (agree-past 773 4872 (omega arith) (a .bytes)))
+
 module _ (w h b : List ℕ) (t : Float) (l : List ℕ) (o body : Bytes) (ready : Ready (parts w h b t) (length l) (length o)) where
   lw : 1296 ≤ length w
   unfolding openedOf
@@ -47,53 +91,12 @@ module _ (w h b : List ℕ) (t : Float) (l : List ℕ) (o body : Bytes) (ready :
   lb = omega (arith, simp (length-take, length-drop) at (ready .full .reject))
 
   module _ (lh : length h ≡ 772) {w′ h′ b′ : List ℕ} {o′ : Bytes} (a : AllocatesIn body w h b o No w′ h′ b′ o′) where
-    -- the halves with the generation raised
-    abbrev raised : List ℕ
-    raised = set h′ 768 (at h 768 + 1)
-
-    agrees : (c d : ℕ) → 512 ≤ c → (c ≤ 768 → 768 < d → ⊥) → Agree c d h raised
-    agrees c d k out = agree-then (agree-past c d k (a .halves)) (agree-set h′ 768 (at h 768 + 1) c d out)
-
-    clock-raised : clockIn raised t ≡ record { «last_replay_at» = t; generation = at h 768 + 1; released = at h 769; persisted = at h 770 }
-    clock-raised =
-        let x : at raised 768 ≡ at h 768 + 1 = getD-set-same h′ 768 (at h 768 + 1) 0 (omega (arith, a .halves .size, lh)) in
-        let g : Agree 769 771 h raised = agrees 769 771 (omega arith) (λ p q. omega arith) in
-        let y : at raised 769 ≡ at h 769 = g .same 769 (omega arith) (omega arith) in
-        let z : at raised 770 ≡ at h 770 = g .same 770 (omega arith) (omega arith) in
-        rw (x, y, z)
-
-    stays : Kept w h b w′ raised b′
-    stays =
-        record {
-          words = a .words .size;
-          bytes = a .bytes .size;
-          remote = agree-past 2 3 (omega arith) (a .words);
-          queued = agree-past 4 5 (omega arith) (a .words);
-          rest = agree-past 7 272 (omega arith) (a .words);
-          lens = agrees 512 768 (omega arith) (λ p q. omega arith);
-          terms = agrees 771 772 (omega arith) (λ p q. omega arith);
-          codes = agree-past 512 773 (omega arith) (a .bytes);
-          bodies = agree-past 776 4936 (omega arith) (a .bytes);
-        }
-
-    left : openedOf (parts w′ raised b′ t)
-        ≡ other (openedOf (parts w h b t)) (outboxIn w′ h′ b′) (at w 3) (waitingIn w) (retryIn w)
-        (record { «last_replay_at» = t; generation = at h 768 + 1; released = at h 769; persisted = at h 770 }) (handoffIn w b)
-    left =
-        after w h b w′ raised b′ t t lb stays
-        (outbox-same (agree-all 0 2 w′) (agree-set h′ 768 (at h 768 + 1) 0 512 (λ p q. omega arith)) (agree-all 0 512 b′))
-        (a .words .same 3 (omega arith))
-        (numbers-same (omega (arith, lw)) (a .words .size) (agree-past 5 (5 + 1) (omega arith) (a .words)) (agree-past 272 (272 + 512) (omega arith) (a .words)))
-        (numbers-same (omega (arith, lw)) (a .words .size) (agree-past 6 (6 + 1) (omega arith) (a .words)) (agree-past 784 (784 + 512) (omega arith) (a .words)))
-        clock-raised
-        (handoff-same (omega (arith, lb)) (a .bytes .size) (agree-past 7 10 (omega arith) (a .words)) (agree-past 773 4872 (omega arith) (a .bytes)))
-
-    go : (l′ : List ℕ) (n : ℕ) → Listed (asked (clockIn raised t)) l 0 l′ n → {y : LinkAnswer} → y ≡ answerOf (Number (at w 0)) n
-        → Driven (parts w h b t) (parts w′ raised b′ t) y (λ s r. CalledWithOutbound (sends body) s l o r l′ o′)
+    go : (l′ : List ℕ) (n : ℕ) → Listed (asked (clockIn (raised h h′) t)) l 0 l′ n → {y : LinkAnswer} → y ≡ answerOf (Number (at w 0)) n
+        → Driven (parts w h b t) (parts w′ (raised h h′) b′ t) y (λ s r. CalledWithOutbound (sends body) s l o r l′ o′)
     unfolding openedOf
     go l′ n li e =
-        changes (parts w h b t) (ready .sound) (parts w′ raised b′ t) _ left (Number (at w 0)) n e
-        (λ d q lq. S.went (openedOf (parts w h b t)) l o body d q (ready .list) (ready .outbound) (ready .sound) (ready .full) lq (ready .low) (record { outbox = outboxIn w′ h′ b′; stop = No }) o′ (a .allocates) l′ n refl (subst (λ (k : Clock). Listed (asked k) l 0 l′ n) clock-raised li))
+        changes (parts w h b t) (ready .sound) (parts w′ (raised h h′) b′ t) _ (left w h b t lw lb lh a) (Number (at w 0)) n e
+        (λ d q lq. S.went (openedOf (parts w h b t)) l o body d q (ready .list) (ready .outbound) (ready .sound) (ready .full) lq (ready .low) (record { outbox = outboxIn w′ h′ b′; stop = No }) o′ (a .allocates) l′ n refl (subst (λ (k : Clock). Listed (asked k) l 0 l′ n) (clock-raised w h b t lw lb lh a) li))
 
   pub went : (lh : length h ≡ 772) {stop : Stop} {w′ h′ b′ : List ℕ} {o′ : Bytes} → AllocatesIn body w h b o stop w′ h′ b′ o′ → stop ≡ No → (k : Clock)
       → k ≡ clockIn (set h′ 768 (at h 768 + 1)) t → (l′ : List ℕ) (n : ℕ) → Listed (asked k) l 0 l′ n → {y : LinkAnswer} → y ≡ answerOf (Number (at w 0)) n

@@ -36,7 +36,7 @@ fn enters(words: &Words, halves: &Halves, bytes: &Bytes, list: usize, outbound: 
 }
 
 // `peer_session::allocate`: a message gets the next number and joins the unacked as pending, or is refused.
-fn allocate(
+pub fn allocate(
     words: &mut Words,
     halves: &mut Halves,
     bytes: &mut Bytes,

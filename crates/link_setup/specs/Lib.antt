@@ -1,0 +1,2 @@
+-- What the contracts of `link_setup` cite.
+pub mod Steps
