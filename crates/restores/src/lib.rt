@@ -29,7 +29,7 @@ pub struct Handoff {
 // ---- the record
 
 // Writes the first n bytes of bodies to the front of the store, where bodies reached up to index end, and 0 over what is left of those.
-fn repack(store: &mut [u8], bodies: &[u8], n: usize, end: usize)
+pub fn repack(store: &mut [u8], bodies: &[u8], n: usize, end: usize)
     requires { ⌜ (n ≤ length (now bodies)) × (n ≤ length (now store)) × (end ≤ length (now store)) ⌝ }
     ensures { λ _. ⌜ now (store .exit) ≡ repacked end (take n (now (bodies .entry))) (now (store .entry)) ⌝ }
 {
@@ -146,7 +146,7 @@ fn restore_terminal(s: SessionState, given: Handoff, body: &[u8]) -> Returned
 // ---- a restore
 
 // Refusal 28: the generation is above 0, or a message is queued, or an ack waits.
-fn too_late(generation: u32, queued: usize, waiting: usize) -> bool
+pub fn too_late(generation: u32, queued: usize, waiting: usize) -> bool
     ensures { λ r. ⌜ r ≡ not (eqb generation 0 && eqb queued 0 && eqb waiting 0) ⌝ }
 {
     if generation != 0 {

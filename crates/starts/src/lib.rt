@@ -164,7 +164,7 @@ pub fn body_bytes(lengths: &[u64], count: usize) -> usize
 }
 
 // The store of a new session: the first n bytes of bodies, and 0 to its very end.
-fn fill(store: &mut [u8], bodies: &[u8], n: usize)
+pub fn fill(store: &mut [u8], bodies: &[u8], n: usize)
     requires { ⌜ (n ≤ length (now bodies)) × (n ≤ length (now store)) ⌝ }
     ensures { λ _. ⌜ now (store .exit) ≡ filled (length (now (store .entry))) (take n (now (bodies .entry))) ⌝ }
 {
@@ -211,7 +211,7 @@ fn reject_body(reject: &[u8]) -> RejectBody
 // ---- a start
 
 // Refusal 1 of the record, 2 and 3.
-fn judge(
+pub fn judge(
     record: Reliable,
     numbers: &[u64],
     lengths: &[u64],

@@ -1,0 +1,4 @@
+-- A start and a restore on the parts of a session are the driver's.
+pub mod Messages
+pub mod Handoffs
+pub mod Restores

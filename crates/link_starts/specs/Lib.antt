@@ -1,0 +1,3 @@
+-- What the contracts of `link_starts` cite.
+pub mod Steps
+pub mod Restores
