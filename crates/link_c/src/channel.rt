@@ -20,17 +20,14 @@ pub extern "C" fn link_accept(
     words: &mut Words,
     halves: &mut Halves,
     bytes: &mut Bytes,
-    clock: &mut f64,
+    clock: &f64,
     outbound: &mut [u8],
     terms: Terms,
     body: &[u8],
 ) -> LinkAnswer
-    ensures { λ x. ⌜ Driven (parts (now (words .entry)) (now (halves .entry)) (now (bytes .entry)) (now (clock .entry))) (parts (now (words .exit)) (now (halves .exit)) (now (bytes .exit)) (now (clock .exit))) x (λ s y. CalledWithOutboundAlone (accepts terms (now (body .entry))) s (now (outbound .entry)) y (now (outbound .exit))) ⌝ }
+    ensures { λ x. ⌜ Driven (parts (now (words .entry)) (now (halves .entry)) (now (bytes .entry)) (now (clock .entry))) (parts (now (words .exit)) (now (halves .exit)) (now (bytes .exit)) (now (clock .entry))) x (λ s y. CalledWithOutboundAlone (accepts terms (now (body .entry))) s (now (outbound .entry)) y (now (outbound .exit))) ⌝ }
 {
-    let s = link_codes::opened(words, halves, bytes, clock);
-    let sound = peer_session::sound(s);
-    let r = setup::accept_session(s, outbound, terms, body);
-    drive::finished(words, halves, bytes, clock, sound, r)
+    link_setup::accept(words, halves, bytes, clock, outbound, terms, body)
 }
 
 // The proposal is rejected.
@@ -39,33 +36,27 @@ pub extern "C" fn link_reject(
     words: &mut Words,
     halves: &mut Halves,
     bytes: &mut Bytes,
-    clock: &mut f64,
+    clock: &f64,
     list: &mut [u64],
     outbound: &mut [u8],
 ) -> LinkAnswer
-    ensures { λ x. ⌜ Driven (parts (now (words .entry)) (now (halves .entry)) (now (bytes .entry)) (now (clock .entry))) (parts (now (words .exit)) (now (halves .exit)) (now (bytes .exit)) (now (clock .exit))) x (λ s y. CalledWithOutbound rejects s (now (list .entry)) (now (outbound .entry)) y (now (list .exit)) (now (outbound .exit))) ⌝ }
+    ensures { λ x. ⌜ Driven (parts (now (words .entry)) (now (halves .entry)) (now (bytes .entry)) (now (clock .entry))) (parts (now (words .exit)) (now (halves .exit)) (now (bytes .exit)) (now (clock .entry))) x (λ s y. CalledWithOutbound rejects s (now (list .entry)) (now (outbound .entry)) y (now (list .exit)) (now (outbound .exit))) ⌝ }
 {
-    let s = link_codes::opened(words, halves, bytes, clock);
-    let sound = peer_session::sound(s);
-    let r = setup::reject_session(s, list, outbound);
-    drive::finished(words, halves, bytes, clock, sound, r)
+    link_setup::reject(words, halves, bytes, clock, list, outbound)
 }
 
 // The channel of these terms is made.
 #[no_mangle]
 pub extern "C" fn link_prepare_channel(
-    words: &mut Words,
+    words: &Words,
     halves: &mut Halves,
     bytes: &mut Bytes,
-    clock: &mut f64,
+    clock: &f64,
     terms: Terms,
 ) -> LinkAnswer
-    ensures { λ x. ⌜ Driven (parts (now (words .entry)) (now (halves .entry)) (now (bytes .entry)) (now (clock .entry))) (parts (now (words .exit)) (now (halves .exit)) (now (bytes .exit)) (now (clock .exit))) x (λ s y. CalledAlone (prepares-channel terms) s y) ⌝ }
+    ensures { λ x. ⌜ Driven (parts (now (words .entry)) (now (halves .entry)) (now (bytes .entry)) (now (clock .entry))) (parts (now (words .entry)) (now (halves .exit)) (now (bytes .exit)) (now (clock .entry))) x (λ s y. CalledAlone (prepares-channel terms) s y) ⌝ }
 {
-    let s = link_codes::opened(words, halves, bytes, clock);
-    let sound = peer_session::sound(s);
-    let r = setup::prepare_channel(s, terms);
-    drive::finished(words, halves, bytes, clock, sound, r)
+    link_setup::prepare_channel(words, halves, bytes, clock, terms)
 }
 
 // The setup ends; its messages are kept or dropped.
@@ -74,17 +65,14 @@ pub extern "C" fn link_retire(
     words: &mut Words,
     halves: &mut Halves,
     bytes: &mut Bytes,
-    clock: &mut f64,
+    clock: &f64,
     outbound: &mut [u8],
     queue: &mut [u8],
     retain: bool,
 ) -> LinkAnswer
-    ensures { λ x. ⌜ Driven (parts (now (words .entry)) (now (halves .entry)) (now (bytes .entry)) (now (clock .entry))) (parts (now (words .exit)) (now (halves .exit)) (now (bytes .exit)) (now (clock .exit))) x (λ s y. CalledWithStoresAlone (retires retain) s (now (outbound .entry)) (now (queue .entry)) y (now (outbound .exit)) (now (queue .exit))) ⌝ }
+    ensures { λ x. ⌜ Driven (parts (now (words .entry)) (now (halves .entry)) (now (bytes .entry)) (now (clock .entry))) (parts (now (words .exit)) (now (halves .exit)) (now (bytes .exit)) (now (clock .entry))) x (λ s y. CalledWithStoresAlone (retires retain) s (now (outbound .entry)) (now (queue .entry)) y (now (outbound .exit)) (now (queue .exit))) ⌝ }
 {
-    let s = link_codes::opened(words, halves, bytes, clock);
-    let sound = peer_session::sound(s);
-    let r = setup::retire(s, outbound, queue, retain);
-    drive::finished(words, halves, bytes, clock, sound, r)
+    link_setup::retire(words, halves, bytes, clock, outbound, queue, retain)
 }
 
 // A channel's command: none, or a terminal handoff with this id and body.
