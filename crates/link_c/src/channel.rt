@@ -65,17 +65,14 @@ pub extern "C" fn link_retire(
     words: &mut Words,
     halves: &mut Halves,
     bytes: &mut Bytes,
-    clock: &mut f64,
+    clock: &f64,
     outbound: &mut [u8],
     queue: &mut [u8],
     retain: bool,
 ) -> LinkAnswer
-    ensures { λ x. ⌜ Driven (parts (now (words .entry)) (now (halves .entry)) (now (bytes .entry)) (now (clock .entry))) (parts (now (words .exit)) (now (halves .exit)) (now (bytes .exit)) (now (clock .exit))) x (λ s y. CalledWithStoresAlone (retires retain) s (now (outbound .entry)) (now (queue .entry)) y (now (outbound .exit)) (now (queue .exit))) ⌝ }
+    ensures { λ x. ⌜ Driven (parts (now (words .entry)) (now (halves .entry)) (now (bytes .entry)) (now (clock .entry))) (parts (now (words .exit)) (now (halves .exit)) (now (bytes .exit)) (now (clock .entry))) x (λ s y. CalledWithStoresAlone (retires retain) s (now (outbound .entry)) (now (queue .entry)) y (now (outbound .exit)) (now (queue .exit))) ⌝ }
 {
-    let s = link_codes::opened(words, halves, bytes, clock);
-    let sound = peer_session::sound(s);
-    let r = setup::retire(s, outbound, queue, retain);
-    drive::finished(words, halves, bytes, clock, sound, r)
+    link_setup::retire(words, halves, bytes, clock, outbound, queue, retain)
 }
 
 // A channel's command: none, or a terminal handoff with this id and body.

@@ -4,3 +4,4 @@ pub mod Channels
 pub mod Joins
 pub mod Accepts
 pub mod Rejects
+pub mod Retires

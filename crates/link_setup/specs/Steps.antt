@@ -69,8 +69,8 @@ pub record Retiring (w h b : List ℕ) (n : ℕ) : Type 0 where
   pub checked : (t : Float) → Checked (openedOf (parts w h b t)) true
   pub room : 32768 ≤ n
 
-abbrev pub RetiresIn : List ℕ → List ℕ → List ℕ → Bytes → List ℕ → List ℕ → List ℕ → Bytes → Type 0
-RetiresIn w h b q w′ h′ b′ q′ = (t : Float) → Retires (openedOf (parts w h b t)) q (openedOf (parts w′ h′ b′ t)) q′
+pub record RetiresIn (w h b : List ℕ) (q : Bytes) (w′ h′ b′ : List ℕ) (q′ : Bytes) : Type 0 where
+  pub retires : (t : Float) → Retires (openedOf (parts w h b t)) q (openedOf (parts w′ h′ b′ t)) q′
 
-abbrev pub ForgetsIn : List ℕ → List ℕ → List ℕ → Bytes → List ℕ → List ℕ → Bytes → Type 0
-ForgetsIn w h b o w′ h′ o′ = (t : Float) → Forgets (openedOf (parts w h b t)) o (openedOf (parts w′ h′ b t)) o′
+pub record ForgetsIn (w h b : List ℕ) (o : Bytes) (w′ h′ : List ℕ) (o′ : Bytes) : Type 0 where
+  pub forgets : (t : Float) → Forgets (openedOf (parts w h b t)) o (openedOf (parts w′ h′ b t)) o′
