@@ -260,7 +260,7 @@ fn retired(words: &mut Words, halves: &mut Halves, bytes: &mut Bytes, queue: &mu
     requires { ⌜ Retiring (now words) (now halves) (now bytes) (length (now queue)) ⌝ }
     ensures { λ _. ⌜ RetiresIn (now (words .entry)) (now (halves .entry)) (now (bytes .entry)) (now (queue .entry)) (now (words .exit)) (now (halves .exit)) (now (bytes .exit)) (now (queue .exit)) ⌝ }
 {
-    link_sending::full_halves(halves);
+    parts::full_halves(halves);
     let end = link_receiving::used(halves, words[parts::QUEUED] as usize);
     stores::clear(queue, 0, end);
     words[parts::QUEUED] = 0;
@@ -278,7 +278,7 @@ fn forget(words: &mut Words, halves: &mut Halves, bytes: &Bytes, outbound: &mut 
     requires { ⌜ ExactOutbox (outboxIn (now words) (now halves) (now bytes)) (length (now outbound)) ⌝ }
     ensures { λ _. ⌜ ForgetsIn (now (words .entry)) (now (halves .entry)) (now (bytes .entry)) (now (outbound .entry)) (now (words .exit)) (now (halves .exit)) (now (outbound .exit)) ⌝ }
 {
-    link_sending::full_halves(halves);
+    parts::full_halves(halves);
     link_sound::sized(words, bytes);
     let end = link_outbox::used(halves, words[parts::UNACKED] as usize);
     stores::clear(outbound, 0, end);

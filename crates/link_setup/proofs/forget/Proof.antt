@@ -9,7 +9,7 @@ use Rattle.link_setup.proofs.forget.Tie as tie
 use Rattle.link_setup.proofs.forget.Reads as reads
 use Rattle.link_setup.proofs.forget.Lts as lts
 use Rattle.link_outbox.proofs.used.Reads as used-reads
-use Rattle.link_sending.proofs.full_halves.Reads as full-halves-reads
+use Rattle.parts.proofs.full_halves.Reads as full-halves-reads
 use Rattle.link_sound.proofs.sized.Reads as sized-reads
 use Rattle.stores.proofs.clear.Reads as clear-reads
 

@@ -5,7 +5,7 @@ use Rattle.link_setup.proofs.retired.Tie as tie
 use Rattle.link_setup.proofs.retired.Reads as reads
 use Rattle.link_setup.proofs.retired.Lts as lts
 use Rattle.link_receiving.proofs.used.Reads as used-reads
-use Rattle.link_sending.proofs.full_halves.Reads as full-halves-reads
+use Rattle.parts.proofs.full_halves.Reads as full-halves-reads
 use Rattle.link_setup.proofs.stage.Reads as stage-reads
 use Rattle.stores.proofs.clear.Reads as clear-reads
 
