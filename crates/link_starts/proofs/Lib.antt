@@ -2,3 +2,4 @@
 pub mod Messages
 pub mod Handoffs
 pub mod Restores
+pub mod Starts

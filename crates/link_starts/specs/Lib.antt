@@ -1,3 +1,4 @@
 -- What the contracts of `link_starts` cite.
 pub mod Steps
 pub mod Restores
+pub mod Starts
