@@ -78,17 +78,7 @@ pub extern "C" fn link_start(
 ) -> LinkAnswer
     ensures { λ x. ⌜ DrivenStart (parts (now (words .entry)) (now (halves .entry)) (now (bytes .entry)) (now (clock .entry))) (parts (now (words .exit)) (now (halves .exit)) (now (bytes .exit)) (now (clock .exit))) x (λ y. Started «record» (now (numbers .entry)) (now (lengths .entry)) (now (bodies .entry)) policy (now (reject .entry)) (now (outbound .entry)) (now (queue .entry)) y (now (outbound .exit)) (now (queue .exit))) ⌝ }
 {
-    let r = starts::start(
-        record,
-        numbers,
-        lengths,
-        bodies,
-        policy,
-        reject,
-        outbound,
-        queue,
-    );
-    let a = r.answer;
-    let goes = drive::goes(a);
-    drive::finished(words, halves, bytes, clock, goes, r)
+    link_starts::start(
+        words, halves, bytes, clock, record, numbers, lengths, bodies, policy, reject, outbound, queue,
+    )
 }
