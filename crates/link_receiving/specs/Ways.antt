@@ -15,7 +15,7 @@ use Rattle.peer_session.specs.Sound.{Checked}
 use Rattle.draining.specs.Arrived.{Arrived}
 use Rattle.parts.specs.Parts.{parts, at, queueIn, openedOf}
 use Rattle.link_receiving.specs.declared.Way.{Way}
-use Rattle.link_receiving.specs.declared.Way.the-variants.{Deliver, Enqueue}
+use Rattle.link_receiving.specs.declared.Way.the-variants.{Deliver, Enqueue, Again}
 
 -- new data in Raw mode, past the checks
 pub record Fresh (f : Frame) (s : SessionState) : Type 0 where
@@ -50,6 +50,16 @@ pub record Later (status : HostStatus) (number len : ℕ) (w h b : List ℕ) (en
   pub short : end + len ≤ at w 12
   pub is : end ≡ endQ (queueIn w h b)
 
+-- a duplicate, past the checks
+pub record Repeated (f : Frame) (w h b : List ℕ) (t : Float) (l : List ℕ) (d o q : Bytes) : Type 0 where
+  pub arrived : Arrived (openedOf (parts w h b t)) l d o q
+  pub kind : f .kind ≤ 2
+  pub short : length (f .body) ≤ at w 13
+  pub old : f .number ≤ at w 2
+  pub free : at w 5 + at w 4 < 512
+  pub words : length w ≡ 1296
+  pub bytes : length b ≡ 4936
+
 -- ---- the tests
 
 -- the buffers are long enough, and the kind is known
@@ -60,14 +70,16 @@ pub record Reached (l d o q k : ℕ) : Type 0 where
   pub queue : 32768 ≤ q
   pub kind : k ≤ 2
 
-pub record Tests (w h b : List ℕ) (number len : ℕ) : Type 0 where
+pub record Tests (w h b : List ℕ) (len : ℕ) : Type 0 where
   pub low : at h 768 < 4294966000
   pub raw : at b 771 ≡ 0
   pub short : len ≤ at w 13
+  pub free : at w 5 + at w 4 < 512
+
+pub record Near (w : List ℕ) (number : ℕ) : Type 0 where
   pub new : at w 2 < number
   pub last : number ≤ 18446744073709551614
   pub near : number - (at w 2 + 1) ≤ at w 10
-  pub free : at w 5 + at w 4 < 512
 
 pub record Waits (status : HostStatus) (number : ℕ) (w : List ℕ) : Type 0 where
   pub ahead : status .available ≡ true → number ≡ at w 2 + 1 → ⊥
@@ -80,14 +92,15 @@ Tells r A = r ≡ true → A
 -- ---- the choice
 
 -- a session that calls leave, and data that passes the tests
-pub record Passed (w h b : List ℕ) (number len : ℕ) : Type 0 where
+pub record Passed (w h b : List ℕ) (len : ℕ) : Type 0 where
   pub sound : (t : Float) → Checked (openedOf (parts w h b t)) true
-  pub tests : Tests w h b number len
+  pub tests : Tests w h b len
   pub words : length w ≡ 1296
   pub halves : length h ≡ 772
   pub bytes : length b ≡ 4936
 
 -- by the other way nothing has to hold
 pub record Chosen (enough : Bool) (w h b : List ℕ) (status : HostStatus) (number len : ℕ) (r : Way) : Type 0 where
-  pub delivers : r ≡ Deliver → (enough ≡ true) × (Passed w h b number len × Now status number w)
-  pub enqueues : (end : ℕ) → r ≡ Enqueue end → (enough ≡ true) × (Passed w h b number len × Later status number len w h b end)
+  pub delivers : r ≡ Deliver → (enough ≡ true) × (Passed w h b len × (Near w number × Now status number w))
+  pub enqueues : (end : ℕ) → r ≡ Enqueue end → (enough ≡ true) × (Passed w h b len × (Near w number × Later status number len w h b end))
+  pub repeats : r ≡ Again → (enough ≡ true) × (Passed w h b len × (number ≤ at w 2))

@@ -1,4 +1,4 @@
-// `link_data` on the parts of a session: in Raw mode a frame is delivered, or joins the queue, where they lie. All else goes by value.
+// `link_data` on the parts of a session: in Raw mode a frame is delivered, joins the queue, or is a duplicate, where they lie. All else goes by value.
 ghost use mathlib.Core.Path.{_≡_};
 ghost use mathlib.Core.Bool.{true};
 ghost use Prim.Native.Nat.{_+_, _≤_, _<_};
@@ -11,7 +11,7 @@ ghost use Rattle.parts.specs.Codes.{answerOf};
 ghost use Rattle.parts.specs.Parts.{parts, at, clockIn};
 ghost use Rattle.parts.specs.Driven.{Driven};
 ghost use Rattle.link_receiving.specs.Steps.{bodies, Summing, Joins, Joined, Confirms, Confirmed};
-ghost use Rattle.link_receiving.specs.Ways.{Data, Now, Later, Reached, Tests, Waits, Tells, Chosen};
+ghost use Rattle.link_receiving.specs.Ways.{Data, Now, Later, Repeated, Reached, Tests, Near, Waits, Tells, Passed, Chosen};
 use parts::Bytes;
 use parts::Halves;
 use parts::LinkAnswer;
@@ -25,6 +25,8 @@ pub enum Way {
     Deliver,
     // at this index of the queue store
     Enqueue(usize),
+    // a duplicate
+    Again,
     // by value
     Other,
 }
@@ -107,7 +109,7 @@ fn confirm(words: &mut Words, halves: &mut Halves, number: u64)
     halves[parts::GENERATION] = generation + 1;
 }
 
-// ---- the two ways
+// ---- the ways
 
 // Data that is delivered: the host is there, and nothing is queued.
 fn deliver(
@@ -161,6 +163,35 @@ fn enqueue(
     taken(n)
 }
 
+// A duplicate: its acknowledgement was lost, or waits for its commit.
+fn again(
+    words: &mut Words,
+    halves: &Halves,
+    bytes: &Bytes,
+    clock: &f64,
+    list: &mut [u64],
+    delivery: &[u8],
+    outbound: &[u8],
+    queue: &[u8],
+    status: HostStatus,
+    number: u64,
+    kind: u64,
+    body: &[u8],
+) -> LinkAnswer
+    requires { ⌜ Repeated (frameOf number kind (now body)) (now words) (now halves) (now bytes) (now clock) (now list) (now delivery) (now outbound) (now queue) ⌝ }
+    ensures { λ x. ⌜ Driven (parts (now (words .entry)) (now (halves .entry)) (now (bytes .entry)) (now (clock .entry))) (parts (now (words .exit)) (now (halves .entry)) (now (bytes .entry)) (now (clock .entry))) x (λ s y. Called (gets-data status (frameOf number kind (now (body .entry)))) s (lent (now (list .entry)) (now (delivery .entry)) (now (outbound .entry)) (now (queue .entry))) y (lent (now (list .exit)) (now (delivery .entry)) (now (outbound .entry)) (now (queue .entry)))) ⌝ }
+{
+    let c = clock_of(halves, clock);
+    if number <= words[parts::RELEASED] {
+        events::emit(list, 0, 10, number, 0, 0);
+        let n = events::request(c, list, 1);
+        return taken(n);
+    }
+    link_numbers::put(words, parts::WAITING_NUMBERS, parts::WAITING, number);
+    let n = events::request(c, list, 0);
+    taken(n)
+}
+
 // ---- which way
 
 // Whether the buffers are long enough, and the kind is known.
@@ -182,9 +213,9 @@ fn reaches(list: usize, delivery: usize, outbound: usize, queue: usize, kind: u6
     kind <= 2
 }
 
-// Whether it is new data, in Raw mode, that the checks let pass; the acks that wait and the frames in the queue are below 512 together.
-fn fresh(words: &Words, halves: &Halves, bytes: &Bytes, number: u64, len: usize) -> bool
-    ensures { λ r. ⌜ Tells r (Tests (now (words .entry)) (now (halves .entry)) (now (bytes .entry)) number len) ⌝ }
+// Whether it is data, in Raw mode, that the checks let pass whatever its number; the acks that wait and the frames in the queue are below 512 together.
+fn passes(words: &Words, halves: &Halves, bytes: &Bytes, len: usize) -> bool
+    ensures { λ r. ⌜ Tells r (Tests (now (words .entry)) (now (halves .entry)) (now (bytes .entry)) len) ⌝ }
 {
     if SessionState::GENERATION_LIMIT <= halves[parts::GENERATION] {
         return false;
@@ -195,21 +226,22 @@ fn fresh(words: &Words, halves: &Halves, bytes: &Bytes, number: u64, len: usize)
     if words[parts::POLICY_BODY] < len as u64 {
         return false;
     }
-    let remote = words[parts::REMOTE];
-    if number <= remote {
-        return false;
-    }
-    if SessionState::LAST_REMOTE < number {
-        return false;
-    }
-    if words[parts::POLICY_GAP] < number - (remote + 1) {
-        return false;
-    }
     let queued = words[parts::QUEUED];
     if 512 <= queued {
         return false;
     }
     words[parts::WAITING] < 512 - queued
+}
+
+// Whether the checks let its number pass, of one that is new.
+fn near(words: &Words, number: u64) -> bool
+    requires { ⌜ at (now words) 2 < number ⌝ }
+    ensures { λ r. ⌜ Tells r (Near (now (words .entry)) number) ⌝ }
+{
+    if SessionState::LAST_REMOTE < number {
+        return false;
+    }
+    number - (words[parts::REMOTE] + 1) <= words[parts::POLICY_GAP]
 }
 
 // Whether it is delivered: it is the next one, the host is there, and nothing is queued.
@@ -265,25 +297,19 @@ fn full(words: &Words, halves: &Halves, bytes: &Bytes)
     let b: &[u8] = bytes;
 }
 
-fn choose(
+// Of data that is new.
+fn choose_new(
     words: &Words,
     halves: &Halves,
     bytes: &Bytes,
-    enough: bool,
     status: HostStatus,
     number: u64,
     len: usize,
 ) -> Way
-    ensures { λ r. ⌜ Chosen enough (now (words .entry)) (now (halves .entry)) (now (bytes .entry)) status number len r ⌝ }
+    requires { ⌜ Passed (now words) (now halves) (now bytes) len × (at (now words) 2 < number) ⌝ }
+    ensures { λ r. ⌜ Chosen true (now (words .entry)) (now (halves .entry)) (now (bytes .entry)) status number len r ⌝ }
 {
-    full(words, halves, bytes);
-    if !enough {
-        return Way::Other;
-    }
-    if !fresh(words, halves, bytes, number, len) {
-        return Way::Other;
-    }
-    if !link_sound::sound(words, halves, bytes) {
+    if !near(words, number) {
         return Way::Other;
     }
     if at_once(words, status, number) {
@@ -304,6 +330,33 @@ fn choose(
         return Way::Other;
     }
     Way::Enqueue(end)
+}
+
+fn choose(
+    words: &Words,
+    halves: &Halves,
+    bytes: &Bytes,
+    enough: bool,
+    status: HostStatus,
+    number: u64,
+    len: usize,
+) -> Way
+    ensures { λ r. ⌜ Chosen enough (now (words .entry)) (now (halves .entry)) (now (bytes .entry)) status number len r ⌝ }
+{
+    full(words, halves, bytes);
+    if !enough {
+        return Way::Other;
+    }
+    if !passes(words, halves, bytes, len) {
+        return Way::Other;
+    }
+    if !link_sound::sound(words, halves, bytes) {
+        return Way::Other;
+    }
+    if number <= words[parts::REMOTE] {
+        return Way::Again;
+    }
+    choose_new(words, halves, bytes, status, number, len)
 }
 
 // ---- by value
@@ -400,6 +453,20 @@ pub fn data(
             status,
             number,
             kind as u8,
+            body,
+        ),
+        Way::Again => again(
+            words,
+            halves,
+            bytes,
+            clock,
+            list,
+            delivery,
+            outbound,
+            queue,
+            status,
+            number,
+            kind,
             body,
         ),
         Way::Other => by_value(
