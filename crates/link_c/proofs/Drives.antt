@@ -1,25 +1,18 @@
 -- A driver's call on the session that the lent parts are is a call driven. Assumes nothing.
-use Prim.Native.Nat.{ℕ}
 use mathlib.Core.Path.{_≡_, refl, sym, ap, _∙_, subst}
-use mathlib.Core.Bool.{Bool, true, false, not, true≢false}
-use mathlib.Core.Option.{Option}
-use Rattle.rules.specs.declared.Answer.{Answer}
+use mathlib.Core.Bool.{Bool, true, false, true≢false}
 use Rattle.rules.specs.Buffers.{Lent, taken-by, short, wrong-code}
-use Rattle.rules.specs.State as R
-use Rattle.rules.specs.Start.{Reliable}
-use Rattle.rules.specs.Calls.{Call, restores}
+use Rattle.rules.specs.Calls.{Call}
 use Rattle.peer_session.specs.declared.SessionState.{SessionState}
 use Rattle.peer_session.specs.Sound.{soundOf, Checked}
 use Rattle.peer_session.specs.View.{Held, held}
 use Rattle.session.specs.declared.Returned.{Returned}
-use Rattle.session.specs.declared.Told.{Told}
 use Rattle.session.specs.Promise.{Exit, exit, promise, Called}
 use Rattle.session.proofs.Promises.{promise-short, promise-code, promise-unsound}
-use Rattle.restores.specs.Restored.{restorePromise}
 use Rattle.parts.specs.declared.LinkAnswer.{LinkAnswer}
 use Rattle.parts.specs.Codes.{answerOf}
 use Rattle.parts.specs.Parts.{Parts, openedOf}
-use Rattle.parts.specs.Driven.{Driven, DrivenStart, DrivenTold, DrivenAnswer, is-refusal}
+use Rattle.parts.specs.Driven.{Driven}
 use Rattle.link_c.specs.Finished.{Finished}
 
 -- a refusal as a call would return it that hands the very session back
@@ -43,17 +36,6 @@ module _ (c : Call) (s : SessionState) (l : Lent) (unsound : soundOf s ≡ false
   called-kept r {l′} e =
       ap (λ (h : Held). exit h (r .answer) (r .events) l′) (sym held-kept ∙ sym (ap (λ (x : Exit). x .session) e)) ∙ e
 
--- the same of a restore
-module _ (r : Reliable) (h : Option R.Handoff) (short-of : Bool) (s : SessionState) (l : Lent) (unsound : soundOf s ≡ false) where
-  restore-held : restorePromise r h short-of s l .session ≡ held s
-  unfolding restorePromise
-  restore-held = cases short-of (λ e. rw e) (λ e. rw e (held-kept (restores r h) s l unsound))
-
-  pub restored-kept : (x : Returned) {l′ : Lent} → exit (held (x .session)) (x .answer) (x .events) l′ ≡ restorePromise r h short-of s l
-      → exit (held s) (x .answer) (x .events) l′ ≡ restorePromise r h short-of s l
-  restored-kept x {l′} e =
-      ap (λ (k : Held). exit k (x .answer) (x .events) l′) (sym restore-held ∙ sym (ap (λ (y : Exit). y .session) e)) ∙ e
-
 -- ---- calls driven
 
 module _ {p p′ : Parts} {s : SessionState} (opens : s ≡ openedOf p) {good : Bool} (checked : Checked s good) {x : LinkAnswer} {Call : SessionState → Returned → Type 0} where
@@ -76,21 +58,3 @@ module _ {p p′ : Parts} {s : SessionState} (opens : s ≡ openedOf p) {good : 
         answers = f .answers;
         kept = λ h. f .kept e;
       })
-
-module _ {p : Parts} {s : SessionState} (opens : s ≡ openedOf p) {x : LinkAnswer} where
-  pub drives-told : {Call : SessionState → Told → Type 0} (r : Told) → Call s r → x ≡ answerOf (r .answer) (r .events) → DrivenTold p x Call
-  drives-told {Call = Call} r h e = record { returned = r; called = subst (λ (t : SessionState). Call t r) opens h; answers = e }
-
-  pub drives-answer : {Call : SessionState → Answer → Type 0} (r : Answer) → Call s r → x ≡ answerOf r 0 → DrivenAnswer p x Call
-  drives-answer {Call = Call} r h e = record { returned = r; called = subst (λ (t : SessionState). Call t r) opens h; answers = e }
-
-pub drives-start : {p p′ : Parts} {x : LinkAnswer} {Call : Returned → Type 0} {goes : Bool} (r : Returned) → Call r → goes ≡ not (is-refusal (r .answer)) → Finished p p′ goes r x
-    → DrivenStart p p′ x Call
-drives-start r h e f =
-    record {
-      returned = r;
-      called = h;
-      leaves = λ k. f .leaves (e ∙ ap not k);
-      answers = f .answers;
-      kept = λ k. f .kept (e ∙ ap not k);
-    }

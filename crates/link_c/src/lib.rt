@@ -79,6 +79,17 @@ pub extern "C" fn link_start(
     ensures { λ x. ⌜ DrivenStart (parts (now (words .entry)) (now (halves .entry)) (now (bytes .entry)) (now (clock .entry))) (parts (now (words .exit)) (now (halves .exit)) (now (bytes .exit)) (now (clock .exit))) x (λ y. Started «record» (now (numbers .entry)) (now (lengths .entry)) (now (bodies .entry)) policy (now (reject .entry)) (now (outbound .entry)) (now (queue .entry)) y (now (outbound .exit)) (now (queue .exit))) ⌝ }
 {
     link_starts::start(
-        words, halves, bytes, clock, record, numbers, lengths, bodies, policy, reject, outbound, queue,
+        words,
+        halves,
+        bytes,
+        clock,
+        record,
+        numbers,
+        lengths,
+        bodies,
+        policy,
+        reject,
+        outbound,
+        queue,
     )
 }

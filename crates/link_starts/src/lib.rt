@@ -94,7 +94,11 @@ fn same_handoff(words: &Words, bytes: &Bytes, given: Handoff, body: &[u8]) -> bo
     if words[parts::HANDOFF_NUMBER] != given.number {
         return false;
     }
-    let held = stores::part(bytes, parts::HANDOFF_BODY, words[parts::HANDOFF_LEN] as usize);
+    let held = stores::part(
+        bytes,
+        parts::HANDOFF_BODY,
+        words[parts::HANDOFF_LEN] as usize,
+    );
     if !stores::same_bytes(held, body) {
         return false;
     }

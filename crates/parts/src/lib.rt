@@ -6,52 +6,89 @@ ghost use lib.ListN.{length};
 // ---- words
 
 pub const NEXT: usize = 0;
+
 pub const UNACKED: usize = 1;
+
 pub const REMOTE: usize = 2;
+
 pub const RELEASED: usize = 3;
+
 pub const QUEUED: usize = 4;
+
 pub const WAITING: usize = 5;
+
 pub const RETRIES: usize = 6;
+
 pub const HANDOFF_LEN: usize = 7;
+
 pub const HANDOFF_ID: usize = 8;
+
 pub const HANDOFF_NUMBER: usize = 9;
+
 pub const POLICY_GAP: usize = 10;
+
 pub const POLICY_MESSAGES: usize = 11;
+
 pub const POLICY_BYTES: usize = 12;
+
 pub const POLICY_BODY: usize = 13;
+
 pub const REJECT_LEN: usize = 14;
 // one word is spare; then the queued frames' numbers, the acks that wait for a commit, and those to be sent again
 pub const QUEUED_NUMBERS: usize = 16;
+
 pub const WAITING_NUMBERS: usize = 272;
+
 pub const RETRY_NUMBERS: usize = 784;
+
 pub type Words = [u64; 1296];
 
 // ---- halves: of each unacked message its number and its length, of each queued frame its length
 
 pub const UNACKED_NUMBERS: usize = 0;
+
 pub const UNACKED_LENS: usize = 256;
+
 pub const QUEUED_LENS: usize = 512;
+
 pub const GENERATION: usize = 768;
+
 pub const RELEASED_GENERATION: usize = 769;
+
 pub const PERSISTED_GENERATION: usize = 770;
+
 pub const TERMS: usize = 771;
+
 pub type Halves = [u32; 772];
 
 // ---- bytes: a flag is 0, or anything else. Of each unacked message pending and unsent, of each queued frame its kind
 
 pub const PENDING: usize = 0;
+
 pub const UNSENT: usize = 256;
+
 pub const QUEUED_KINDS: usize = 512;
+
 pub const DISPOSITION: usize = 768;
+
 pub const SETUP: usize = 769;
+
 pub const INITIATOR: usize = 770;
+
 pub const MODE: usize = 771;
+
 pub const FAILED: usize = 772;
+
 pub const HANDOFF_SENT: usize = 773;
+
 pub const HANDOFF_ACKNOWLEDGED: usize = 774;
+
 pub const HANDOFF_PRESENT: usize = 775;
+
 pub const HANDOFF_BODY: usize = 776;
+
 pub const REJECT_BODY: usize = 4872;
+
 pub type Bytes = [u8; 4936];
 
 // ---- what is made of them
