@@ -1,10 +1,9 @@
 -- The laws of data in place: `Idle` a drain that takes nothing; `Calls` the two ways as the driver's call; `Queues` a frame that goes in after those queued; `Opens` the session
--- that the parts are then; `Sums` where bodies end; `Drives` the two ways driven; `Repeats` a duplicate; `Ways` the choice; `Values` data by value.
+-- that the parts are then; `Drives` the two ways driven; `Repeats` a duplicate; `Ways` the choice; `Values` data by value.
 pub mod Idle
 pub mod Calls
 pub mod Queues
 pub mod Opens
-pub mod Sums
 pub mod Drives
 pub mod Repeats
 pub mod Ways

@@ -24,9 +24,9 @@ use Rattle.parts.specs.Parts.{parts, at, queueIn, codesIn, openedOf}
 use Rattle.link_sound.proofs.Parts.{Usable, usable}
 use Rattle.link_receiving.specs.declared.Way.{Way}
 use Rattle.link_receiving.specs.declared.Way.the-variants.{Deliver, Enqueue, Again, Other}
-use Rattle.link_receiving.specs.Steps.{bodies, Summing}
+use Rattle.link_queue.specs.Steps.{bodies, Summing}
 use Rattle.link_receiving.specs.Ways.{Data, Now, Later, Repeated, Reached, Tests, Near, Tells, Passed, Chosen}
-use Rattle.link_receiving.proofs.Sums.{end-bodies}
+use Rattle.link_queue.proofs.Sums.{end-bodies}
 
 pub untold : {A : Type 0} → Tells false A
 untold e = absurd (true≢false (sym e))

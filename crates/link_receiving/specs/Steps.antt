@@ -3,19 +3,10 @@ use Prim.Native.Nat.{ℕ, _+_, _≤_, _<_}
 use mathlib.Core.Path.{_≡_}
 use mathlib.Core.List.{List, [], _∷_, _++_}
 use lib.ListN.{length, set}
-use Rattle.rules.specs.Lists.{Bytes, total, itself}
+use Rattle.rules.specs.Lists.{Bytes}
 use Rattle.queue.specs.View.{framesOf, endQ, Repacked}
 use Rattle.queue.specs.Steps.{arrived, Room}
-use Rattle.parts.specs.Seats.{seats}
 use Rattle.parts.specs.Parts.{at, queueIn}
-
--- the sum of the first n lengths of queued frames
-abbrev pub bodies : List ℕ → ℕ → ℕ
-bodies h n = total itself (seats n (λ i. at h (512 + i)))
-
-pub record Summing (h : List ℕ) (n : ℕ) : Type 0 where
-  pub few : n ≤ 256
-  pub small : bodies h n ≤ 32768
 
 -- a frame of len bytes has room after those that are queued, whose bodies end at an index of the store
 pub record Joins (w h b : List ℕ) (size end len : ℕ) : Type 0 where

@@ -10,7 +10,7 @@ ghost use Rattle.delivery.specs.Turns.{frameOf};
 ghost use Rattle.parts.specs.Codes.{answerOf};
 ghost use Rattle.parts.specs.Parts.{parts, at, clockIn};
 ghost use Rattle.parts.specs.Driven.{Driven};
-ghost use Rattle.link_receiving.specs.Steps.{bodies, Summing, Joins, Joined, Confirms, Confirmed};
+ghost use Rattle.link_receiving.specs.Steps.{Joins, Joined, Confirms, Confirmed};
 ghost use Rattle.link_receiving.specs.Ways.{Data, Now, Later, Repeated, Reached, Tests, Near, Waits, Tells, Passed, Chosen};
 use parts::Bytes;
 use parts::Halves;
@@ -56,20 +56,6 @@ fn taken(events: usize) -> LinkAnswer
         third: 0,
         events: events,
     }
-}
-
-// Where the bodies of the queued frames end.
-pub fn used(halves: &Halves, count: usize) -> usize
-    requires { ⌜ Summing (now halves) count ⌝ }
-    ensures { λ r. ⌜ r ≡ bodies (now (halves .entry)) count ⌝ }
-{
-    let mut sum: u32 = 0;
-    let mut i = 0;
-    while i < count {
-        sum += halves[parts::QUEUED_LENS + i];
-        i += 1;
-    }
-    sum as usize
 }
 
 // A frame goes in after those that are queued, whose bodies end at index end of the store.
@@ -325,7 +311,7 @@ fn choose_new(
     if words[parts::POLICY_MESSAGES] < count + 1 {
         return Way::Other;
     }
-    let end = used(halves, count as usize);
+    let end = link_queue::start(halves, count as usize);
     if words[parts::POLICY_BYTES] < (end + len) as u64 {
         return Way::Other;
     }

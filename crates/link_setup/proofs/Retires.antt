@@ -44,8 +44,8 @@ use Rattle.parts.proofs.Opened.{opened-as}
 use Rattle.parts.proofs.After.{agree-all}
 use Rattle.parts.proofs.Drives.{changes, refuses}
 use Rattle.link_outbox.specs.Tests.{Bounded}
-use Rattle.link_receiving.specs.Steps.{bodies, Summing}
-use Rattle.link_receiving.proofs.Sums.{end-bodies}
+use Rattle.link_queue.specs.Steps.{bodies, Summing}
+use Rattle.link_queue.proofs.Sums.{end-bodies}
 use Rattle.link_sound.proofs.Parts.{usable}
 use Rattle.link_setup.specs.Steps.{Stages, Retiring, RetiresIn, ForgetsIn}
 use Rattle.link_setup.proofs.Stages.{stage-is, restaged, stages-apart, stage-retires, long-bytes}

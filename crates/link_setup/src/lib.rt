@@ -261,7 +261,7 @@ fn retired(words: &mut Words, halves: &mut Halves, bytes: &mut Bytes, queue: &mu
     ensures { λ _. ⌜ RetiresIn (now (words .entry)) (now (halves .entry)) (now (bytes .entry)) (now (queue .entry)) (now (words .exit)) (now (halves .exit)) (now (bytes .exit)) (now (queue .exit)) ⌝ }
 {
     parts::full_halves(halves);
-    let end = link_receiving::used(halves, words[parts::QUEUED] as usize);
+    let end = link_queue::start(halves, words[parts::QUEUED] as usize);
     stores::clear(queue, 0, end);
     words[parts::QUEUED] = 0;
     let disposition = bytes[parts::DISPOSITION];

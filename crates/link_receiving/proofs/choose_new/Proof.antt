@@ -11,7 +11,7 @@ use Rattle.link_receiving.proofs.choose_new.Lts as lts
 use Rattle.link_receiving.proofs.above.Reads as above-reads
 use Rattle.link_receiving.proofs.at_once.Reads as at-once-reads
 use Rattle.link_receiving.proofs.near.Reads as near-reads
-use Rattle.link_receiving.proofs.used.Reads as used-reads
+use Rattle.link_queue.proofs.start.Reads as start-reads
 use Rattle.link_receiving.proofs.waits.Reads as waits-reads
 
 nearby : (c : tie.Else1) → Near (c .before .before .args .words .now) (c .before .before .args .number)
@@ -66,8 +66,8 @@ returns-5 : tie.Need-returns-5
 returns-5 c = chosen-other
 
 -- src/lib.rt:328:9
-used-requires : tie.Need-used-requires
-used-requires c κs = summing (c .before .before .before .before .before .before .before .before .before .before .before .pre .0)
+start-requires : tie.Need-start-requires
+start-requires c κs = summing (c .before .before .before .before .before .before .before .before .before .before .before .pre .0)
 
 -- src/lib.rt:329:8
 element-copy-out-if6 : tie.Need-element-copy-out-if6
@@ -75,7 +75,7 @@ element-copy-out-if6 c = search needs
 
 -- src/lib.rt:329:38
 add-if6 : tie.Need-add-if6
-add-if6 c = omega (arith, len-small (c .before .before .before .before .before .before .before .before .before .before .before .before .before .pre .0), summing (c .before .before .before .before .before .before .before .before .before .before .before .before .before .pre .0) .small, c .before .used .ensures)
+add-if6 c = omega (arith, len-small (c .before .before .before .before .before .before .before .before .before .before .before .before .before .pre .0), summing (c .before .before .before .before .before .before .before .before .before .before .before .before .before .pre .0) .small, c .before .start .ensures)
 
 -- src/lib.rt:330:9
 returns-6 : tie.Need-returns-6
@@ -84,14 +84,14 @@ returns-6 c = chosen-other
 -- src/lib.rt:301:1
 returns-7 : tie.Need-returns-7
 returns-7 c =
-    chosen-enqueue (c .before .before .used .result) refl (c .before .before .before .before .before .before .before .before .before .before .before .before .before .before .pre .0) (nearby (c .before .before .before .before .before .before .before .before .before .before .before .before))
+    chosen-enqueue (c .before .before .start .result) refl (c .before .before .before .before .before .before .before .before .before .before .before .before .before .before .pre .0) (nearby (c .before .before .before .before .before .before .before .before .before .before .before .before))
     (record {
       ahead = c .before .before .before .before .before .before .before .before .before .waits .ensures (not-false _ (c .before .before .before .before .before .before .before .before .if3 .left)) .ahead;
       still = c .before .before .before .before .before .before .before .before .before .waits .ensures (not-false _ (c .before .before .before .before .before .before .before .before .if3 .left)) .still;
       top = c .before .before .before .before .before .before .before .above .ensures (not-false _ (c .before .before .before .before .before .before .if4 .left));
       few = c .before .before .before .if5 .left;
       short = c .if6 .left;
-      is = end-is (c .before .before .before .before .before .before .before .before .before .before .before .before .before .before .pre .0) (c .before .before .used .ensures);
+      is = end-is (c .before .before .before .before .before .before .before .before .before .before .before .before .before .before .pre .0) (c .before .before .start .ensures);
     })
 
 pub choose-new-spec : {M : Type 1} → statement M
@@ -110,7 +110,7 @@ choose-new-spec =
     element-copy-out-if5
     add-if5
     returns-5
-    used-requires
+    start-requires
     element-copy-out-if6
     add-if6
     returns-6

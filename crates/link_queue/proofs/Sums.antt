@@ -9,7 +9,7 @@ use Rattle.queue.specs.View.{lenQ, endQ}
 use Rattle.parts.specs.Seats.{seats}
 use Rattle.parts.specs.Parts.{at, queuedAt, queueIn}
 use Rattle.parts.proofs.Seats.{take-seats, seats-snoc, map-seats}
-use Rattle.link_receiving.specs.Steps.{bodies, Summing}
+use Rattle.link_queue.specs.Steps.{bodies, Summing}
 
 total-map : {A : Type 0} (size : A → ℕ) (xs : List A) → total size xs ≡ total itself (map size xs)
 unfolding total

@@ -1,20 +1,20 @@
-use Rattle.link_receiving.proofs.Sums.{bodies-within}
+use Rattle.link_queue.proofs.Sums.{bodies-within}
 use Prim.Native.Nat.{_-_, _≤_}
 use mathlib.Core.Path.{_≡_, sym, ap, _∙_}
 use native.Mathlib.Omega.{arith}
-use Rattle.link_receiving.specs.Steps.{bodies, Summing}
-use Rattle.link_receiving.proofs.Sums.{bodies-none, bodies-more, bodies-small}
+use Rattle.link_queue.specs.Steps.{bodies, Summing}
+use Rattle.link_queue.proofs.Sums.{bodies-none, bodies-more, bodies-small}
 use borrow.Author.Needs.{needs}
-use Rattle.link_receiving.proofs.used.Statement.{statement}
-use Rattle.link_receiving.proofs.used.Tie as tie
-use Rattle.link_receiving.proofs.used.Reads as reads
-use Rattle.link_receiving.proofs.used.Lts as lts
+use Rattle.link_queue.proofs.start.Statement.{statement}
+use Rattle.link_queue.proofs.start.Tie as tie
+use Rattle.link_queue.proofs.start.Reads as reads
+use Rattle.link_queue.proofs.start.Lts as lts
 
 abbrev Inv-loop : tie.InvT-loop
-Inv-loop halves count sum₀ i₀ sum i = Summing halves count × (i ≤ count) × (sum ≡ bodies halves i)
+Inv-loop halves k sum₀ i₀ sum i = Summing halves k × (i ≤ k) × (sum ≡ bodies halves i)
 
 abbrev μ-loop : tie.MeasureT-loop
-μ-loop halves count sum₀ i₀ sum i = count - i
+μ-loop halves k sum₀ i₀ sum i = k - i
 
 -- src/lib.rt:56:5
 loop-holds : tie.Need-loop-holds Inv-loop μ-loop
@@ -36,7 +36,7 @@ element-copy-out-sum c = search needs
 add-sum-2 : tie.Need-add-sum-2 Inv-loop μ-loop
 add-sum-2 c =
     let l = c .before .before .loop in
-    omega (arith, l .inv, bodies-small (c .before .before .before .args .halves .now) (c .before .before .before .args .count) (l .i) (l .inv .0) (c .before .loop-test .taken))
+    omega (arith, l .inv, bodies-small (c .before .before .before .args .halves .now) (c .before .before .before .args .k) (l .i) (l .inv .0) (c .before .loop-test .taken))
 
 -- src/lib.rt:58:9
 add-i : tie.Need-add-i Inv-loop μ-loop
@@ -56,17 +56,17 @@ loop-again c =
 cast-result : tie.Need-cast-result Inv-loop μ-loop
 cast-result c =
     let l = c .before .loop in
-    omega (arith, l .inv, bodies-within (c .before .before .args .halves .now) (c .before .before .args .count) (l .i) (l .inv .0) (l .inv .1))
+    omega (arith, l .inv, bodies-within (c .before .before .args .halves .now) (c .before .before .args .k) (l .i) (l .inv .0) (l .inv .1))
 
 -- src/lib.rt:50:1
 returns : tie.Need-returns Inv-loop μ-loop
 returns c =
     let l = c .before .loop in
-    let e : l .i ≡ c .before .before .args .count = omega (arith, l .inv, c .loop-test .left) in
+    let e : l .i ≡ c .before .before .args .k = omega (arith, l .inv, c .loop-test .left) in
     l .inv .2 ∙ ap (bodies (c .before .before .args .halves .now)) e
 
-pub used-spec : {M : Type 1} → statement M
-used-spec =
+pub start-spec : {M : Type 1} → statement M
+start-spec =
     tie.close
     (tie.spec
     Inv-loop
