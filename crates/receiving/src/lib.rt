@@ -124,7 +124,7 @@ fn terminal(t: Turn, kind: u8) -> bool
 }
 
 // Whether data is delivered now.
-fn delivers(t: Turn, status: HostStatus, number: u64, kind: u8) -> bool
+pub fn delivers(t: Turn, status: HostStatus, number: u64, kind: u8) -> bool
     requires { ⌜ t .remote < number ⌝ }
     ensures { λ r. ⌜ Delivers status number kind t r ⌝ }
 {

@@ -1,0 +1,341 @@
+// Data in any mode, on the parts of a session, in place: the Rust's `receive_data` (session.rs), past the tests at its entry.
+ghost use mathlib.Core.Path.{_≡_};
+ghost use mathlib.Core.Bool.{true, false};
+ghost use lib.ListN.{length};
+ghost use Prim.Native.Nat.{_≤_};
+ghost use Rattle.rules.specs.declared.Answer.the-variants.{Flag};
+ghost use Rattle.rules.specs.Calls.{gets-data};
+ghost use Rattle.session.specs.Promise.{lent, Called};
+ghost use Rattle.delivery.specs.Turns.{frameOf};
+ghost use Rattle.draining.specs.Arrived.{told};
+ghost use Rattle.receiving.specs.Checks.{Acknowledges, Acknowledging, Anew};
+ghost use Rattle.parts.specs.Codes.{answerOf};
+ghost use Rattle.parts.specs.Parts.{parts, openedOf};
+ghost use Rattle.parts.specs.Driven.{Driven};
+ghost use Rattle.link_numbers.specs.Sets.{Rising};
+ghost use Rattle.link_arrivals.specs.Ending.{endedOf};
+ghost use Rattle.link_arrivals.specs.Entry.{Enters};
+ghost use Rattle.link_arrivals.specs.Steps.{Countable, Filled, Judged, Arriving, Receiving, Taking};
+use delivery::Turn;
+use events::Stop;
+use parts::Bytes;
+use parts::Halves;
+use parts::LinkAnswer;
+use parts::Words;
+use peer_session::SessionState;
+use receiving::Verdict;
+use rules::Answer;
+use rules::HostStatus;
+use rules::Refusal;
+
+pub mod stub;
+
+pub struct Ending {
+    pub events: usize,
+    pub stop: Stop,
+}
+
+// ---- the tests at the entry of a call that takes all four buffers
+
+// wrong: a code outside its list.
+pub fn enters(
+    words: &Words,
+    halves: &Halves,
+    bytes: &Bytes,
+    list: usize,
+    delivery: usize,
+    outbound: usize,
+    queue: usize,
+    wrong: bool,
+) -> Stop
+    ensures { λ r. ⌜ Enters (now (words .entry)) (now (halves .entry)) (now (bytes .entry)) wrong list delivery outbound queue r ⌝ }
+{
+    if list < SessionState::EVENT_WORDS {
+        return Stop::By(Refusal::ShortBuffer);
+    }
+    if delivery < SessionState::DELIVERY_BYTES {
+        return Stop::By(Refusal::ShortBuffer);
+    }
+    if outbound < SessionState::OUTBOUND_BYTES {
+        return Stop::By(Refusal::ShortBuffer);
+    }
+    if queue < SessionState::QUEUE_BYTES {
+        return Stop::By(Refusal::ShortBuffer);
+    }
+    if wrong {
+        return Stop::By(Refusal::UnknownCode);
+    }
+    if !link_sound::sound(words, halves, bytes) {
+        return Stop::By(Refusal::BadRecord);
+    }
+    if SessionState::GENERATION_LIMIT <= halves[parts::GENERATION] {
+        return Stop::By(Refusal::GenerationsExhausted);
+    }
+    Stop::No
+}
+
+// ---- checks
+
+// 26: the acks that wait and the frames in the queue are 512 together, and the number is in neither, nor answered by code 10.
+fn acks_full(words: &Words, number: u64) -> bool
+    requires { ⌜ Countable (now words) ⌝ }
+    ensures { λ r. ⌜ Filled number (now (words .entry)) r ⌝ }
+{
+    let waiting = words[parts::WAITING] as usize;
+    let queued = words[parts::QUEUED] as usize;
+    if waiting + queued < SessionState::MAX_WAITING_AND_QUEUED {
+        return false;
+    }
+    if link_numbers::has(words, parts::WAITING_NUMBERS, waiting, number) {
+        return false;
+    }
+    if stub::find(words, number) {
+        return false;
+    }
+    if words[parts::REMOTE] < number {
+        return true;
+    }
+    words[parts::RELEASED] < number
+}
+
+// 4; of a number above remote 5 and 6; 26.
+fn check(words: &Words, number: u64, len: usize) -> Verdict
+    requires { ⌜ Countable (now words) ⌝ }
+    ensures { λ r. ⌜ Judged number len (now (words .entry)) r ⌝ }
+{
+    if words[parts::POLICY_BODY] < len as u64 {
+        return Verdict::Fail(Refusal::BodyTooLong);
+    }
+    let remote = words[parts::REMOTE];
+    if remote < number {
+        if words[parts::POLICY_GAP] < number - (remote + 1) {
+            return Verdict::Fail(Refusal::GapTooWide);
+        }
+        if SessionState::LAST_REMOTE < number {
+            return Verdict::Refuse(Refusal::LastNumber);
+        }
+        if acks_full(words, number) {
+            return Verdict::Refuse(Refusal::AcksFull);
+        }
+        return Verdict::New;
+    }
+    if acks_full(words, number) {
+        return Verdict::Refuse(Refusal::AcksFull);
+    }
+    Verdict::Again
+}
+
+// ---- data
+
+// A duplicate: its acknowledgement was lost, or waits for its commit.
+fn receive_again(
+    words: &mut Words,
+    halves: &Halves,
+    bytes: &Bytes,
+    clock: &f64,
+    list: &mut [u64],
+    number: u64,
+) -> Ending
+    requires { ⌜ Acknowledging number (openedOf (parts (now words) (now halves) (now bytes) (now clock))) (length (now list)) × Rising 272 5 (now words) ⌝ }
+    ensures { λ r. ⌜ Acknowledges number (openedOf (parts (now (words .entry)) (now (halves .entry)) (now (bytes .entry)) (now (clock .entry)))) (now (list .entry)) (endedOf (openedOf (parts (now (words .exit)) (now (halves .entry)) (now (bytes .entry)) (now (clock .entry)))) r) (now (list .exit)) ⌝ }
+{
+    parts::full_words(words);
+    parts::full_bytes(bytes);
+    let c = link_codes::reading::clock_in(halves, clock);
+    if number <= words[parts::RELEASED] {
+        events::emit(list, 0, 10, number, 0, 0);
+        let n = events::request(c, list, 1);
+        return Ending {
+            events: n,
+            stop: Stop::No,
+        };
+    }
+    link_numbers::put(words, parts::WAITING_NUMBERS, parts::WAITING, number);
+    let n = events::request(c, list, 0);
+    Ending {
+        events: n,
+        stop: Stop::No,
+    }
+}
+
+// Data that is delivered now: what was queued up to its number goes.
+fn take_now(
+    words: &mut Words,
+    halves: &mut Halves,
+    bytes: &mut Bytes,
+    clock: &mut f64,
+    t: Turn,
+    status: HostStatus,
+    list: &mut [u64],
+    delivery: &mut [u8],
+    outbound: &mut [u8],
+    queue: &mut [u8],
+    number: u64,
+    kind: u8,
+    body: &[u8],
+) -> Ending
+    requires { ⌜ Taking true status t (frameOf number kind (now body)) (now words) (now halves) (now bytes) (now clock) (now list) (now delivery) (now outbound) (now queue) ⌝ }
+    ensures { λ r. ⌜ Anew status (frameOf number kind (now (body .entry))) (openedOf (parts (now (words .entry)) (now (halves .entry)) (now (bytes .entry)) (now (clock .entry)))) (now (list .entry)) (now (delivery .entry)) (now (outbound .entry)) (now (queue .entry)) (endedOf (openedOf (parts (now (words .exit)) (now (halves .exit)) (now (bytes .exit)) (now (clock .exit)))) r) (now (list .exit)) (now (delivery .exit)) (now (outbound .exit)) (now (queue .exit)) ⌝ }
+{
+    parts::full_words(words);
+    parts::full_bytes(bytes);
+    let a = delivery::deliver(t, list, 0, delivery, 0, number, kind, body);
+    let turn = a.turn;
+    let stop = a.stop;
+    match stop {
+        Stop::By(x) => stub::abandon(
+            words,
+            halves,
+            bytes,
+            clock,
+            list,
+            a.events,
+            outbound,
+            queue,
+            turn,
+            x,
+        ),
+        Stop::No => {
+            let from = stub::up_to(words, number);
+            link_numbers::put(words, parts::WAITING_NUMBERS, parts::WAITING, number);
+            let c = turn.clock;
+            let n = events::request(c, list, a.events);
+            stub::carry(
+                words,
+                halves,
+                bytes,
+                clock,
+                turn,
+                from,
+                status,
+                list,
+                n,
+                delivery,
+                a.at,
+                outbound,
+                queue,
+            )
+        }
+    }
+}
+
+// Data that waits for its turn: a number that is queued keeps its first copy.
+fn enqueue(
+    words: &mut Words,
+    halves: &mut Halves,
+    bytes: &mut Bytes,
+    clock: &mut f64,
+    t: Turn,
+    status: HostStatus,
+    list: &mut [u64],
+    delivery: &mut [u8],
+    outbound: &mut [u8],
+    queue: &mut [u8],
+    number: u64,
+    kind: u8,
+    body: &[u8],
+) -> Ending
+    requires { ⌜ Taking false status t (frameOf number kind (now body)) (now words) (now halves) (now bytes) (now clock) (now list) (now delivery) (now outbound) (now queue) ⌝ }
+    ensures { λ r. ⌜ Anew status (frameOf number kind (now (body .entry))) (openedOf (parts (now (words .entry)) (now (halves .entry)) (now (bytes .entry)) (now (clock .entry)))) (now (list .entry)) (now (delivery .entry)) (now (outbound .entry)) (now (queue .entry)) (endedOf (openedOf (parts (now (words .exit)) (now (halves .exit)) (now (bytes .exit)) (now (clock .exit)))) r) (now (list .exit)) (now (delivery .exit)) (now (outbound .exit)) (now (queue .exit)) ⌝ }
+{
+    parts::full_words(words);
+    parts::full_bytes(bytes);
+    let c = link_codes::reading::clock_in(halves, clock);
+    if stub::find(words, number) {
+        let n = events::request(c, list, 0);
+        return stub::carry(
+            words, halves, bytes, clock, t, 0, status, list, n, delivery, 0, outbound, queue,
+        );
+    }
+    let count = words[parts::QUEUED];
+    if words[parts::POLICY_MESSAGES] < count + 1 {
+        return stub::fail(words, halves, bytes, clock, list, 0, queue, Refusal::QueueCount);
+    }
+    let used = link_queue::start(halves, count as usize);
+    if words[parts::POLICY_BYTES] < (used + body.len()) as u64 {
+        return stub::fail(words, halves, bytes, clock, list, 0, queue, Refusal::QueueBytes);
+    }
+    stub::insert(words, halves, bytes, queue, number, kind, body);
+    let n = events::request(c, list, 0);
+    stub::carry(
+        words, halves, bytes, clock, t, 0, status, list, n, delivery, 0, outbound, queue,
+    )
+}
+
+fn receive_new(
+    words: &mut Words,
+    halves: &mut Halves,
+    bytes: &mut Bytes,
+    clock: &mut f64,
+    status: HostStatus,
+    list: &mut [u64],
+    delivery: &mut [u8],
+    outbound: &mut [u8],
+    queue: &mut [u8],
+    number: u64,
+    kind: u8,
+    body: &[u8],
+) -> Ending
+    requires { ⌜ Receiving (frameOf number kind (now body)) (now words) (now halves) (now bytes) (now clock) (now list) (now delivery) (now outbound) (now queue) ⌝ }
+    ensures { λ r. ⌜ Anew status (frameOf number kind (now (body .entry))) (openedOf (parts (now (words .entry)) (now (halves .entry)) (now (bytes .entry)) (now (clock .entry)))) (now (list .entry)) (now (delivery .entry)) (now (outbound .entry)) (now (queue .entry)) (endedOf (openedOf (parts (now (words .exit)) (now (halves .exit)) (now (bytes .exit)) (now (clock .exit)))) r) (now (list .exit)) (now (delivery .exit)) (now (outbound .exit)) (now (queue .exit)) ⌝ }
+{
+    let t = stub::turn_of(words, halves, bytes, clock);
+    if receiving::delivers(t, status, number, kind) {
+        return take_now(
+            words, halves, bytes, clock, t, status, list, delivery, outbound, queue, number, kind,
+            body,
+        );
+    }
+    enqueue(
+        words, halves, bytes, clock, t, status, list, delivery, outbound, queue, number, kind, body,
+    )
+}
+
+// What data answers, by the refusal that ended it.
+fn answered(e: Ending) -> LinkAnswer
+    ensures { λ r. ⌜ r ≡ answerOf (told (Flag true) (e .stop)) (e .events) ⌝ }
+{
+    let stop = e.stop;
+    match stop {
+        Stop::No => link_codes::plain(2, 1, e.events),
+        Stop::By(x) => link_codes::answer_of(Answer::Refused(x), e.events),
+    }
+}
+
+pub fn receive(
+    words: &mut Words,
+    halves: &mut Halves,
+    bytes: &mut Bytes,
+    clock: &mut f64,
+    list: &mut [u64],
+    delivery: &mut [u8],
+    outbound: &mut [u8],
+    queue: &mut [u8],
+    status: HostStatus,
+    number: u64,
+    kind: u8,
+    body: &[u8],
+) -> LinkAnswer
+    requires { ⌜ Arriving (frameOf number kind (now body)) (now words) (now halves) (now bytes) (now clock) (now list) (now delivery) (now outbound) (now queue) ⌝ }
+    ensures { λ x. ⌜ Driven (parts (now (words .entry)) (now (halves .entry)) (now (bytes .entry)) (now (clock .entry))) (parts (now (words .exit)) (now (halves .exit)) (now (bytes .exit)) (now (clock .exit))) x (λ s y. Called (gets-data status (frameOf number kind (now (body .entry)))) s (lent (now (list .entry)) (now (delivery .entry)) (now (outbound .entry)) (now (queue .entry))) y (lent (now (list .exit)) (now (delivery .exit)) (now (outbound .exit)) (now (queue .exit)))) ⌝ }
+{
+    let verdict = check(words, number, body.len());
+    match verdict {
+        Verdict::Refuse(x) => link_codes::refusal(x),
+        Verdict::Fail(x) => {
+            let e = stub::fail(words, halves, bytes, clock, list, 0, queue, x);
+            answered(e)
+        }
+        Verdict::Again => {
+            let e = receive_again(words, halves, bytes, clock, list, number);
+            answered(e)
+        }
+        Verdict::New => {
+            let e = receive_new(
+                words, halves, bytes, clock, status, list, delivery, outbound, queue, number, kind,
+                body,
+            );
+            answered(e)
+        }
+    }
+}
