@@ -35,8 +35,8 @@ use Rattle.parts.specs.Codes.{good-codes}
 use Rattle.parts.specs.Parts.{Parts, parts, at, outboxIn, queueIn, waitingIn, codesIn, rejectIn, openedOf}
 use Rattle.link_queue.specs.Steps.{Requeued}
 use Rattle.link_draining.specs.Steps.{AdvancesIn, failedBytes, Failing}
-use Rattle.link_draining.specs.Stubs.{DrainsIn}
-use Rattle.link_draining.specs.declared.stubs.DrainEnd.{DrainEnd}
+use Rattle.link_delivery.specs.Drains.{DrainsIn}
+use Rattle.link_delivery.specs.declared.DrainEnd.{DrainEnd}
 use Rattle.link_draining.proofs.Sessions.{requeued, with-waiting, rewaited, with-failed, marked}
 
 -- ---- what is asked of the outbox, of the parts

@@ -4,14 +4,15 @@ use mathlib.Core.Path.{_≡_, refl, sym, ap, _∙_, subst}
 use mathlib.Core.Bool.{true, false}
 use mathlib.Core.List.{List, []}
 use native.Mathlib.Omega.{arith}
-use lib.ListN.{length, set, replicate}
-use lib.Seq.{getD-set-same, getD-set-other}
+use lib.ListN.{length, set, take, replicate}
+use lib.Seq.{getD-set-same, getD-set-other, length-take-le}
 use Rattle.stores.specs.Placed.{placed}
 use Rattle.rules.specs.Lists.{Bytes, total}
 use Rattle.outbox.specs.declared.Outbox.{Outbox}
 use Rattle.outbox.specs.View.{lenU, endU, ExactOutbox}
 use Rattle.outbox.specs.Steps.{Left, Room}
 use Rattle.outbox.proofs.Appends.{discarded}
+use Rattle.peer_session.specs.declared.RejectBody.{RejectBody}
 use Rattle.peer_session.specs.View.{rejectOf}
 use Rattle.delivery.specs.declared.Turn.{Turn}
 use Rattle.draining.specs.Turns.{Settling, Settles}
@@ -48,6 +49,20 @@ module _ (w h b : List ℕ) (lw : length w ≡ 1296) where
         left = subst (λ (x : Outbox). Left (outboxIn w h b) o [] x o′) (sym emptied) (discarded (outboxIn w h b) o o′ exact end (ee ∙ ends-at (exact .few)) eo);
         words = past-set (past-same 2 w) 1 0 (omega arith);
       }
+
+-- the reject body as it is read
+module _ (w h b : List ℕ) (j : RejectBody) (e : j ≡ rejectIn w b) (short : at w 14 ≤ length (rejectIn w b .bytes)) where
+  pub reject-within : j .len ≤ length (j .bytes)
+  reject-within = rw e short
+
+  pub reject-length : length (take (j .len) (j .bytes)) ≡ j .len
+  reject-length = length-take-le (j .len) (j .bytes) reject-within
+
+  pub reject-fits : {n : ℕ} → Room (outboxIn w h b) n 0 (at w 14) → Room (outboxIn w h b) n 0 (length (take (j .len) (j .bytes)))
+  reject-fits {n} r = subst (λ (k : ℕ). Room (outboxIn w h b) n 0 k) (sym (reject-length ∙ ap (λ (z : RejectBody). z .len) e)) r
+
+  pub reject-joins : {o : Bytes} {w′ h′ b′ : List ℕ} {o′ : Bytes} → Joins w h b o (take (j .len) (j .bytes)) w′ h′ b′ o′ → Joins w h b o (rejectOf (rejectIn w b)) w′ h′ b′ o′
+  reject-joins {o} {w′} {h′} {b′} {o′} k = subst (λ (z : RejectBody). Joins w h b o (take (z .len) (z .bytes)) w′ h′ b′ o′) e k
 
 module _ (t : Turn) (w h b : List ℕ) (o : Bytes) (pre : Settling t (rejectIn w b) (outboxIn w h b) (length o)) where
   pub in-both : length w ≡ 1296 → t .sent ≡ true → t .dropped ≡ true → SettlesIn t w h b o (set w 0 (at w 0 + 1)) h b o

@@ -4,11 +4,12 @@ use mathlib.Core.Path.{_≡_, refl, sym, ap, _∙_}
 use mathlib.Core.Bool.{Bool, true, false}
 use mathlib.Core.List.{List}
 use native.Mathlib.Omega.{arith}
-use lib.Dec.{eqb}
+use lib.Dec.{eqb, ltb}
 use lib.Ieee.{Float}
 use lib.ListN.{length, set, length-set}
 use lib.Seq.{getD-set-same}
-use borrow.Author.Tests.{eqb-true}
+use borrow.Author.Tests.{eqb-true, eq-eqb, ne-eqb}
+use Rattle.rules.specs.declared.Clock.{Clock}
 use Rattle.rules.specs.declared.ReceiveMode.{ReceiveMode}
 use Rattle.rules.specs.declared.ReceiveMode.the-variants.{Raw, Proposal, Channel, Rejection, Retiring}
 use Rattle.rules.specs.Lists.{if_then_else_}
@@ -18,10 +19,11 @@ use Rattle.numbers.specs.declared.Numbers.{Numbers}
 use Rattle.peer_session.specs.declared.Stage.{Stage}
 use Rattle.peer_session.specs.declared.SessionState.{SessionState}
 use Rattle.peer_session.specs.Breaks.{failedIn}
+use Rattle.delivery.specs.declared.Turn.{Turn}
 use Rattle.draining.specs.Turns.{turnOf, with-queue}
 use Rattle.parts.specs.declared.StageCodes.{StageCodes}
 use Rattle.parts.specs.Codes.{good-codes, good-stage, stageOf}
-use Rattle.parts.specs.Parts.{parts, at, flag, queueIn, waitingIn, codesIn, openedOf}
+use Rattle.parts.specs.Parts.{parts, at, flag, queueIn, waitingIn, clockIn, codesIn, openedOf}
 use Rattle.parts.specs.Frames.{Only}
 use Rattle.parts.proofs.Fields.{Agree, agree-set, agree-only, agree-above, outbox-same, queue-same, numbers-same, clock-same, codes-same, handoff-same, policy-same, reject-same}
 use Rattle.parts.proofs.Opened.{opened-as}
@@ -107,20 +109,22 @@ rewaited w h b c lw lb {w′} k =
 pub stage-is : (g : StageCodes) → good-codes g ≡ true → stageOf g ≡ good-stage g
 stage-is g good = sym (stage-good g good refl refl)
 
-pub turns : (w h b : List ℕ) (c : Float) → good-codes (codesIn h b) ≡ true
-    → record {
-        mode = mode-of (at b 771);
-        failed = flag (at b 772);
-        remote = at w 2;
-        clock = openedOf (parts w h b c) .clock;
-        disposition = at b 768;
-        next = at w 0;
-        unacked = turnOf (openedOf (parts w h b c)) .unacked;
-        sent = false;
-        dropped = false;
-      } ≡ turnOf (openedOf (parts w h b c))
+pub turns : (w h b : List ℕ) (c : Float) → good-codes (codesIn h b) ≡ true → (m : ReceiveMode) → m ≡ mode-of (at b 771) → (k : Clock) → k ≡ clockIn h c
+    → _≡_ {A = Turn}
+    (record {
+      mode = m;
+      failed = flag (at b 772);
+      remote = at w 2;
+      clock = k;
+      disposition = at b 768;
+      next = at w 0;
+      unacked = ltb 0 (at w 1);
+      sent = false;
+      dropped = false;
+    })
+    (turnOf (openedOf (parts w h b c)))
 unfolding openedOf
-turns w h b c good = rw (stage-is (codesIn h b) good)
+turns w h b c good m em k ek = rw (em, ek, stage-is (codesIn h b) good)
 
 not-channel : (a b d : Bool) → is-channel (if a then Raw else if b then Proposal else if false then Channel else if d then Rejection else Retiring) ≡ false
 not-channel true b d = refl
@@ -133,6 +137,13 @@ channel-code m true e = ap (λ (k : ℕ). is-channel (mode-of k)) (eqb-true m 2 
 channel-code m false e =
     ap (λ (z : Bool). is-channel (if eqb m 0 then Raw else if eqb m 1 then Proposal else if z then Channel else if eqb m 3 then Rejection else Retiring)) e
     ∙ not-channel (eqb m 0) (eqb m 1) (eqb m 3)
+
+-- by the code of the mode
+pub failed-bytes : (b : List ℕ) → at b 771 ≡ 2 → set b 772 1 ≡ failedBytes b
+failed-bytes b e = sym (ap (λ (z : Bool). if z then set b 772 1 else b) (eq-eqb (at b 771) 2 e))
+
+pub same-bytes : (b : List ℕ) → (at b 771 ≡ 2 → ⊥) → b ≡ failedBytes b
+same-bytes b e = sym (ap (λ (z : Bool). if z then set b 772 1 else b) (ne-eqb (at b 771) 2 e))
 
 abbrev pub with-failed : Bool → SessionState → SessionState
 with-failed f s =

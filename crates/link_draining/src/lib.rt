@@ -28,8 +28,6 @@ use rules::Clock;
 use rules::HostStatus;
 use rules::Refusal;
 
-mod stubs;
-
 // The count of events at a call's end, and the refusal that ended it.
 pub struct Ending {
     pub events: usize,
@@ -87,13 +85,7 @@ fn discard(words: &mut Words, halves: &Halves, bytes: &Bytes, outbound: &mut [u8
 }
 
 // The outbox after a turn. Where the rejection was sent and then all was dropped, only its number is gone.
-fn settle(
-    words: &mut Words,
-    halves: &mut Halves,
-    bytes: &mut Bytes,
-    outbound: &mut [u8],
-    t: Turn,
-)
+fn settle(words: &mut Words, halves: &mut Halves, bytes: &mut Bytes, outbound: &mut [u8], t: Turn)
     requires { ⌜ Settling t (rejectIn (now words) (now bytes)) (outboxIn (now words) (now halves) (now bytes)) (length (now outbound)) ⌝ }
     ensures { λ _. ⌜ SettlesIn t (now (words .entry)) (now (halves .entry)) (now (bytes .entry)) (now (outbound .entry)) (now (words .exit)) (now (halves .exit)) (now (bytes .exit)) (now (outbound .exit)) ⌝ }
 {
@@ -161,7 +153,7 @@ fn finish(
     advance(words, halves, bytes, clock, outbound, t);
     full_words(words);
     full_bytes(bytes);
-    stubs::drop_front(words, halves, bytes, queue, taken);
+    link_queue::drop_front(words, halves, bytes, queue, taken);
 }
 
 // ---- a refusal that empties the queue
@@ -192,7 +184,7 @@ pub fn fail(
 {
     full_words(words);
     full_bytes(bytes);
-    stubs::clear(words, halves, bytes, queue);
+    link_queue::clear(words, halves, bytes, queue);
     mark_failed(bytes);
     let number = answers::refusal_number(x);
     events::emit(list, n, 7, number, 0, 0);
@@ -245,7 +237,7 @@ pub fn carry(
 {
     full_words(words);
     full_bytes(bytes);
-    let d = stubs::drain(
+    let d = link_delivery::drain(
         t,
         words,
         halves,
@@ -274,16 +266,7 @@ pub fn carry(
             x,
         ),
         Stop::No => {
-            finish(
-                words,
-                halves,
-                bytes,
-                clock,
-                outbound,
-                queue,
-                turn,
-                d.taken,
-            );
+            finish(words, halves, bytes, clock, outbound, queue, turn, d.taken);
             Ending {
                 events: d.events,
                 stop: Stop::No,

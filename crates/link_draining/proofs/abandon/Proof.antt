@@ -1,3 +1,5 @@
+use Rattle.draining.proofs.Failing.{abandons}
+use Rattle.link_draining.proofs.Ends.{failing-in}
 use borrow.Author.Needs.{needs}
 use Rattle.link_draining.proofs.abandon.Statement.{statement}
 use Rattle.link_draining.proofs.abandon.Tie as tie
@@ -12,7 +14,7 @@ advance-requires c κs = search needs
 
 -- src/lib.rt:222:5
 fail-requires : tie.Need-fail-requires
-fail-requires c κs = ?
+fail-requires c κs = failing-in (c .before .before .before .before .before .before .before .before .advance .ensures) (c .before .before .before .before .before .before .before .before .before .before .before .before .before .before .before .before .before .pre .0)
 
 -- src/lib.rt:206:1
 same-length : tie.Need-same-length
@@ -28,7 +30,7 @@ same-length-3 c = search needs
 
 -- src/lib.rt:206:1
 returns : tie.Need-returns
-returns c = ?
+returns c = abandons (c .before .before .before .before .before .before .before .before .before .before .before .before .before .before .before .before .before .before .before .before .before .before .pre .0) (c .before .before .before .before .before .before .before .before .before .before .before .before .before .advance .ensures .advances) (c .before .before .before .before .fail .ensures)
 
 pub abandon-spec : {M : Type 1} → statement M
 abandon-spec =

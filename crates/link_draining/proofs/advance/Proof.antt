@@ -1,3 +1,5 @@
+use Rattle.link_draining.proofs.Turns.{advances-in}
+use Rattle.link_draining.proofs.Ends.{settling-in}
 use borrow.Author.Needs.{needs}
 use Rattle.link_draining.proofs.advance.Statement.{statement}
 use Rattle.link_draining.proofs.advance.Tie as tie
@@ -23,7 +25,7 @@ full-bytes-requires c κs = search needs
 
 -- src/lib.rt:140:5
 settle-requires : tie.Need-settle-requires
-settle-requires c κs = ?
+settle-requires c κs = settling-in (c .before .before .before .before .before .before .before .before .before .before .before .args .words .now) (c .before .before .before .before .before .before .before .before .before .before .before .args .halves .now) (c .before .before .before .before .before .before .before .before .before .before .before .args .bytes .now) (c .before .before .before .before .before .before .before .before .before .before .before .args .clock .now) (c .before .before .before .before .before .before .before .before .before .before .before .pre .0)
 
 -- src/lib.rt:141:5
 element-write-words : tie.Need-element-write-words
@@ -43,7 +45,7 @@ same-length c = search needs
 
 -- src/lib.rt:126:1
 returns : tie.Need-returns
-returns c = ?
+returns c = advances-in (c .before .before .before .before .before .before .before .before .before .before .before .before .before .before .before .before .before .before .args .t) (c .before .before .before .before .before .before .before .before .before .before .before .before .before .before .before .before .before .before .args .words .now) (c .before .before .before .before .before .before .before .before .before .before .before .before .before .before .before .before .before .before .args .halves .now) (c .before .before .before .before .before .before .before .before .before .before .before .before .before .before .before .before .before .before .args .bytes .now) (c .before .before .before .before .before .before .before .before .before .before .before .before .before .before .before .before .before .before .args .clock .now) (c .before .before .before .before .before .before .before .before .before .before .before .before .before .before .before .before .before .before .args .outbound .now) (c .before .before .before .before .before .before .before .before .before .before .before .before .before .before .before .full-words .ensures) (c .before .before .before .before .before .before .before .before .before .before .before .before .before .full-halves .ensures) (c .before .before .before .before .before .before .before .before .before .before .before .full-bytes .ensures) (c .before .before .before .before .before .before .before .before .before .before .before .before .before .before .before .before .before .before .pre .1) (c .before .before .before .before .before .before .settle .ensures) (c .set-clock .ensures)
 
 pub advance-spec : {M : Type 1} → statement M
 advance-spec =

@@ -1,3 +1,4 @@
+use Rattle.link_draining.proofs.Ends.{fails-in}
 use borrow.Author.Needs.{needs}
 use Rattle.link_draining.proofs.fail.Statement.{statement}
 use Rattle.link_draining.proofs.fail.Tie as tie
@@ -6,7 +7,7 @@ use Rattle.link_draining.proofs.fail.Lts as lts
 use Rattle.answers.proofs.refusal_number.Reads as refusal-number-reads
 use Rattle.events.proofs.emit.Reads as emit-reads
 use Rattle.link_draining.proofs.mark_failed.Reads as mark-failed-reads
-use Rattle.link_draining.proofs.stubs.clear.Reads as clear-reads
+use Rattle.link_queue.proofs.clear.Reads as clear-reads
 use Rattle.parts.proofs.full_bytes.Reads as full-bytes-reads
 use Rattle.parts.proofs.full_words.Reads as full-words-reads
 
@@ -48,7 +49,7 @@ same-length-2 c = search needs
 
 -- src/lib.rt:180:1
 returns : tie.Need-returns
-returns c = ?
+returns c = fails-in (c .before .before .before .before .before .before .before .before .before .before .before .before .before .before .before .before .before .before .before .args .x) (c .before .before .before .before .before .before .before .before .before .before .before .before .before .before .before .before .before .before .before .args .words .now) (c .before .before .before .before .before .before .before .before .before .before .before .before .before .before .before .before .before .before .before .args .halves .now) (c .before .before .before .before .before .before .before .before .before .before .before .before .before .before .before .before .before .before .before .args .bytes .now) (c .before .before .before .before .before .before .before .before .before .before .before .before .before .before .before .before .before .before .before .args .clock .now) (c .before .before .before .before .before .before .before .before .before .before .before .before .before .before .before .before .before .before .before .args .list .now) (c .before .before .before .before .before .before .before .before .before .before .before .before .before .before .before .before .before .before .before .args .n) (c .before .before .before .before .before .before .before .before .before .before .before .before .before .before .before .before .before .before .before .args .queue .now) (c .before .before .before .before .before .before .before .before .before .before .before .before .before .before .before .full-words .ensures) (c .before .before .before .before .before .before .before .before .before .before .before .before .before .full-bytes .ensures) (c .before .before .before .before .before .before .before .before .before .before .before .before .before .before .before .before .before .before .before .pre .codes) (c .before .before .before .before .before .before .before .before .before .clear .ensures) (c .before .before .before .before .before .mark-failed .ensures) (c .before .before .before .before .refusal-number .result) (c .before .before .before .before .refusal-number .ensures) (c .before .before .emit .ensures)
 
 pub fail-spec : {M : Type 1} → statement M
 fail-spec =

@@ -1,3 +1,4 @@
+use Rattle.link_draining.proofs.Sessions.{turns}
 use borrow.Author.Needs.{needs}
 use Rattle.link_draining.proofs.turn_of.Statement.{statement}
 use Rattle.link_draining.proofs.turn_of.Tie as tie
@@ -40,7 +41,7 @@ element-copy-out-t24 c = search needs
 
 -- src/lib.rt:41:1
 returns : tie.Need-returns
-returns c = ?
+returns c = turns (c .before .before .before .before .before .before .before .before .args .words .now) (c .before .before .before .before .before .before .before .before .args .halves .now) (c .before .before .before .before .before .before .before .before .args .bytes .now) (c .before .before .before .before .before .before .before .before .args .clock .now) (c .before .before .before .before .before .before .before .before .pre) (c .before .before .before .before .before .before .mode-of .result) (c .before .before .before .before .before .before .mode-of .ensures) (c .before .before .before .before .before .clock-in .result) (c .before .before .before .before .before .clock-in .ensures)
 
 pub turn-of-spec : {M : Type 1} → statement M
 turn-of-spec =
