@@ -1,5 +1,5 @@
 -- How a call that delivers ends, in place. Assumes nothing.
-use Prim.Native.Nat.{ℕ, _+_, _*_, _≤_, _<_}
+use Prim.Native.Nat.{ℕ, _+_, _*_, _≤_}
 use mathlib.Core.Path.{_≡_, refl, sym, ap, _∙_, subst}
 use mathlib.Core.Bool.{true}
 use mathlib.Core.List.{List, [], _∷_}
@@ -11,12 +11,10 @@ use Rattle.rules.specs.declared.HostStatus.{HostStatus}
 use Rattle.rules.specs.declared.Refusal.{Refusal}
 use Rattle.rules.specs.Answers.{refusal-number}
 use Rattle.rules.specs.Lists.{Bytes}
-use Rattle.events.specs.declared.Stop.{Stop}
 use Rattle.events.specs.declared.Stop.the-variants.{No, By}
 use Rattle.events.specs.Written.{books}
 use Rattle.numbers.specs.declared.Numbers.{Numbers}
 use Rattle.numbers.specs.Seats.{ExactNumbers}
-use Rattle.outbox.specs.View.{ExactOutbox}
 use Rattle.queue.specs.declared.Queue.{Queue}
 use Rattle.queue.specs.View.{framesOf, ExactQueue, Repacked}
 use Rattle.peer_session.specs.declared.SessionState.{SessionState}
@@ -26,13 +24,13 @@ use Rattle.peer_session.proofs.Breaks.{breaks}
 use Rattle.delivery.specs.declared.Turn.{Turn}
 use Rattle.delivery.specs.Turns.{Draining}
 use Rattle.draining.specs.declared.Ended.{Ended}
-use Rattle.draining.specs.Turns.{Settling, with-queue, Finishing, Finishes}
+use Rattle.draining.specs.Turns.{Settling, Finishing, Finishes}
 use Rattle.draining.specs.Ends.{Fails, Abandoning, Abandons, Carrying, Carries}
 use Rattle.draining.proofs.Settled.{finished}
 use Rattle.draining.proofs.Failing as F
 use Rattle.draining.proofs.Carried as C
 use Rattle.parts.specs.Codes.{good-codes}
-use Rattle.parts.specs.Parts.{Parts, parts, at, outboxIn, queueIn, waitingIn, codesIn, rejectIn, openedOf}
+use Rattle.parts.specs.Parts.{parts, at, outboxIn, queueIn, waitingIn, codesIn, rejectIn, openedOf}
 use Rattle.link_queue.specs.Steps.{Requeued}
 use Rattle.link_draining.specs.Steps.{AdvancesIn, failedBytes, Failing}
 use Rattle.link_delivery.specs.Drains.{DrainsIn}

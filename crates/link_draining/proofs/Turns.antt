@@ -13,10 +13,10 @@ use Rattle.outbox.specs.declared.Outbox.{Outbox}
 use Rattle.peer_session.specs.declared.Stage.{Stage}
 use Rattle.peer_session.specs.View.{rejectOf}
 use Rattle.delivery.specs.declared.Turn.{Turn}
-use Rattle.draining.specs.Turns.{Settles, advanced, Advances}
+use Rattle.draining.specs.Turns.{Settles, advanced}
 use Rattle.parts.specs.declared.StageCodes.{StageCodes}
 use Rattle.parts.specs.Codes.{good-codes, stageOf}
-use Rattle.parts.specs.Parts.{Parts, parts, at, flag, outboxIn, waitingIn, clockIn, codesIn, rejectIn, openedOf}
+use Rattle.parts.specs.Parts.{parts, at, flag, outboxIn, waitingIn, clockIn, codesIn, rejectIn, openedOf}
 use Rattle.parts.proofs.Fields.{Agree, agree-past, agree-set, agree-then, outbox-same, queue-same, numbers-same, handoff-same, policy-same, reject-same}
 use Rattle.parts.proofs.Opened.{opened-as}
 use Rattle.link_draining.specs.Steps.{SettlesIn, Timed, AdvancesIn}

@@ -5,7 +5,7 @@ use mathlib.Core.Bool.{true}
 use mathlib.Core.List.{List, []}
 use lib.Dec.{eqb}
 use lib.Ieee.{Float}
-use lib.ListN.{length, set}
+use lib.ListN.{set}
 use Rattle.rules.specs.declared.Clock.{Clock}
 use Rattle.rules.specs.Lists.{Bytes, if_then_else_}
 use Rattle.outbox.specs.Steps.{Left}
