@@ -1,7 +1,17 @@
 // The frames that came too early, of a session that C lends, worked on where they lie.
 ghost use mathlib.Core.Path.{_≡_};
-ghost use Rattle.link_queue.specs.Steps.{bodies, Summing};
+ghost use mathlib.Core.List.{[]};
+ghost use Prim.Native.Nat.{_≤_};
+ghost use lib.ListN.{length, drop};
+ghost use Rattle.queue.specs.View.{framesOf, ExactQueue};
+ghost use Rattle.parts.specs.Parts.{at, queueIn};
+ghost use Rattle.link_queue.specs.Steps.{bodies, Summing, Requeued};
+use parts::Bytes;
 use parts::Halves;
+use parts::Words;
+use parts::full_bytes;
+use parts::full_halves;
+use parts::full_words;
 
 // ---- where the bodies lie
 
@@ -17,4 +27,64 @@ pub fn start(halves: &Halves, k: usize) -> usize
         i += 1;
     }
     sum as usize
+}
+
+// ---- taken out
+
+// All frames go.
+pub fn clear(words: &mut Words, halves: &Halves, bytes: &Bytes, store: &mut [u8])
+    requires { ⌜ ExactQueue (queueIn (now words) (now halves) (now bytes)) (length (now store)) ⌝ }
+    ensures { λ _. ⌜ Requeued [] (now (words .entry)) (now (halves .entry)) (now (bytes .entry)) (now (store .entry)) (now (words .exit)) (now (halves .entry)) (now (bytes .entry)) (now (store .exit)) ⌝ }
+{
+    full_words(words);
+    let count = words[parts::QUEUED] as usize;
+    let end = start(halves, count);
+    stores::clear(store, 0, end);
+    words[parts::QUEUED] = 0;
+}
+
+// The first k frames go: the others, and their bytes, move to the front, and what they leave is cleared.
+fn shed(words: &mut Words, halves: &mut Halves, bytes: &mut Bytes, store: &mut [u8], k: usize)
+    requires { ⌜ (k ≤ at (now words) 4) × ExactQueue (queueIn (now words) (now halves) (now bytes)) (length (now store)) ⌝ }
+    ensures { λ _. ⌜ Requeued (drop k (framesOf (queueIn (now (words .entry)) (now (halves .entry)) (now (bytes .entry))) (now (store .entry)))) (now (words .entry)) (now (halves .entry)) (now (bytes .entry)) (now (store .entry)) (now (words .exit)) (now (halves .exit)) (now (bytes .exit)) (now (store .exit)) ⌝ }
+{
+    full_words(words);
+    let count = words[parts::QUEUED] as usize;
+    let from = start(halves, k);
+    let end = start(halves, count);
+    let to = end - from;
+    let left = count - k;
+    stores::move_down(store, 0, from, to);
+    stores::clear(store, to, end);
+    link_moves::lower_words(
+        words,
+        parts::QUEUED_NUMBERS,
+        parts::QUEUED_NUMBERS + k,
+        left,
+    );
+    link_moves::lower_halves(halves, parts::QUEUED_LENS, parts::QUEUED_LENS + k, left);
+    link_moves::lower_bytes(bytes, parts::QUEUED_KINDS, parts::QUEUED_KINDS + k, left);
+    words[parts::QUEUED] = left as u64;
+}
+
+// The same; where none goes nothing is touched, and where all go no record is.
+pub fn drop_front(
+    words: &mut Words,
+    halves: &mut Halves,
+    bytes: &mut Bytes,
+    store: &mut [u8],
+    k: usize,
+)
+    requires { ⌜ (k ≤ at (now words) 4) × ExactQueue (queueIn (now words) (now halves) (now bytes)) (length (now store)) ⌝ }
+    ensures { λ _. ⌜ Requeued (drop k (framesOf (queueIn (now (words .entry)) (now (halves .entry)) (now (bytes .entry))) (now (store .entry)))) (now (words .entry)) (now (halves .entry)) (now (bytes .entry)) (now (store .entry)) (now (words .exit)) (now (halves .exit)) (now (bytes .exit)) (now (store .exit)) ⌝ }
+{
+    full_words(words);
+    if k == 0 {
+        return;
+    }
+    if k as u64 == words[parts::QUEUED] {
+        clear(words, halves, bytes, store);
+        return;
+    }
+    shed(words, halves, bytes, store, k);
 }
