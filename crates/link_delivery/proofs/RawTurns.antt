@@ -3,7 +3,6 @@ use mathlib.Core.Path.{_≡_, refl, sym, subst}
 use mathlib.Core.Bool.{true, false}
 use mathlib.Core.List.{List}
 use Prim.Native.Nat.{ℕ, _+_, _-_, _*_, _≤_, _<_}
-use native.Mathlib.Omega.{arith}
 use lib.ListN.{length, take, drop, set}
 use Rattle.rules.specs.declared.HostStatus.{HostStatus}
 use Rattle.rules.specs.declared.ReceiveMode.the-variants.{Raw}
@@ -11,7 +10,7 @@ use Rattle.rules.specs.Lists.{Bytes}
 use Rattle.events.specs.declared.Stop.the-variants.{No}
 use Rattle.events.specs.Written.{Books, books}
 use Rattle.delivery.specs.declared.Turn.{Turn}
-use Rattle.delivery.specs.Turns.{Draining, Drains}
+use Rattle.delivery.specs.Turns.{Drains}
 use Rattle.delivery.specs.Acts.{drainedBy}
 use Rattle.delivery.proofs.Drains.{next-small}
 use Rattle.parts.specs.Parts.{at, queueIn, waitingIn}
