@@ -1,21 +1,18 @@
 -- A delivery in Raw mode. Assumes nothing.
 use mathlib.Core.Path.{_≡_, refl, sym, ap, _∙_, subst}
-use mathlib.Core.Bool.{Bool, true, false}
+use mathlib.Core.Bool.{true}
 use mathlib.Core.List.{List, [], _∷_}
 use Prim.Native.Nat.{ℕ, _+_, _*_, _≤_, _<_}
 use native.Mathlib.Omega.{arith}
 use lib.ListN.{length, take, drop}
 use Rattle.stores.specs.Placed.{placed}
-use Rattle.rules.specs.declared.Clock.{Clock}
 use Rattle.rules.specs.declared.HostStatus.{HostStatus}
 use Rattle.rules.specs.declared.ReceiveMode.the-variants.{Raw}
 use Rattle.rules.specs.Lists.{Bytes}
 use Rattle.rules.specs.State as R
-use Rattle.events.specs.declared.Stop.the-variants.{No}
-use Rattle.events.specs.Written.{Listed, asked, Books, books, Within}
+use Rattle.events.specs.Written.{Listed, asked, Books, books}
 use Rattle.events.proofs.Laws.{request-yes, request-no}
 use Rattle.delivery.specs.declared.Turn.{Turn}
-use Rattle.delivery.specs.declared.Step.{Step}
 use Rattle.delivery.specs.Turns.{frameOf, Delivered}
 use Rattle.delivery.specs.Acts.{Available, Deliverable, HandedOver}
 use Rattle.delivery.proofs.Written.{handed-over}

@@ -1,11 +1,11 @@
 // The drain of the queue on the parts of a session: frames are read, and acks that wait are written, where they lie.
 ghost use mathlib.Core.Path.{_≡_};
-ghost use Prim.Native.Nat.{_+_, _≤_, _<_};
+ghost use Prim.Native.Nat.{_+_, _*_, _≤_};
 ghost use lib.ListN.{length, take, drop};
 ghost use Rattle.events.specs.Written.{books};
 ghost use Rattle.delivery.specs.Turns.{frameOf, Ready, Delivered, Draining};
 ghost use Rattle.parts.specs.Parts.{queueIn, waitingIn};
-ghost use Rattle.link_delivery.specs.Drains.{DrainsIn, Left};
+ghost use Rattle.link_delivery.specs.Drains.{DrainsIn, DrainingRaw, Left, HandedRaw, reached};
 use delivery::Step;
 use delivery::Turn;
 use events::Stop;
@@ -13,6 +13,7 @@ use parts::Bytes;
 use parts::Halves;
 use parts::Words;
 use rules::HostStatus;
+use rules::ReceiveMode;
 
 // Where a drain ended: the turn, how many frames were taken from the front of the queue, the count of events, the first free byte of the delivery
 // buffer, and the refusal that ended it.
@@ -23,6 +24,8 @@ pub struct DrainEnd {
     pub at: usize,
     pub stop: Stop,
 }
+
+// ---- in every mode
 
 // The message whose body lies in the store at index start is delivered.
 fn deliver_queued(
@@ -58,7 +61,7 @@ fn leave(words: &mut Words, k: usize, s: Step, taken: usize, stop: Stop) -> Drai
     }
 }
 
-// In every mode: as `delivery::drain` does it.
+// As `delivery::drain` does it.
 fn drain_each(
     t: Turn,
     words: &mut Words,
@@ -114,6 +117,110 @@ fn drain_each(
     leave(words, k, s, i, Stop::No)
 }
 
+// ---- in Raw mode
+
+// A turn that came to another remote number and generation.
+fn reach(t: Turn, remote: u64, generation: u32) -> Turn
+    ensures { λ r. ⌜ r ≡ reached t remote generation ⌝ }
+{
+    let mut c = t.clock;
+    c.generation = generation;
+    let mut r = t;
+    r.clock = c;
+    r.remote = remote;
+    r
+}
+
+// Code 2 with the body, and code 1 while the generation exceeds the persisted one.
+fn hand_over(
+    list: &mut [u64],
+    n: usize,
+    delivery: &mut [u8],
+    at: usize,
+    number: u64,
+    store: &[u8],
+    start: usize,
+    len: usize,
+    generation: u32,
+    persisted: u32,
+) -> usize
+    requires { ⌜ (start + len ≤ length (now store)) × (4 * n + 8 ≤ length (now list)) × (at + len ≤ length (now delivery)) ⌝ }
+    ensures { λ r. ⌜ HandedRaw number generation persisted len (take len (drop start (now (store .entry)))) (books (now (list .entry)) n (now (delivery .entry)) at) r (now (list .exit)) (now (delivery .exit)) ⌝ }
+{
+    let body = stores::part(store, start, len);
+    stores::copy_in(delivery, at, body);
+    events::emit(list, n, 2, number, at as u64, len as u64);
+    if persisted < generation {
+        events::emit(list, n + 1, 1, 0, 0, 0);
+        return n + 2;
+    }
+    n + 1
+}
+
+// Where the host is there. Nothing but numbers changes from frame to frame.
+fn drain_raw(
+    t: Turn,
+    words: &mut Words,
+    halves: &Halves,
+    bytes: &Bytes,
+    from: usize,
+    store: &[u8],
+    status: HostStatus,
+    list: &mut [u64],
+    n: usize,
+    delivery: &mut [u8],
+    at: usize,
+) -> DrainEnd
+    requires { ⌜ DrainingRaw status t (now words) (now halves) (now bytes) from (now store) (books (now list) n (now delivery) at) ⌝ }
+    ensures { λ r. ⌜ DrainsIn status t from (now (words .entry)) (now (halves .entry)) (now (bytes .entry)) (now (store .entry)) (books (now (list .entry)) n (now (delivery .entry)) at) r (now (words .exit)) (now (list .exit)) (now (delivery .exit)) ⌝ }
+{
+    let count = words[parts::QUEUED] as usize;
+    let persisted = t.clock.persisted;
+    let mut generation = t.clock.generation;
+    let mut remote = t.remote;
+    let mut k = words[parts::WAITING] as usize;
+    let mut i = from;
+    let mut start = link_queue::start(halves, from);
+    let mut m = n;
+    let mut a = at;
+    'drain: while i < count {
+        let number = words[parts::QUEUED_NUMBERS + i];
+        if number != remote + 1 {
+            break 'drain;
+        }
+        let len = parts::size(halves[parts::QUEUED_LENS + i]);
+        generation += 1;
+        m = hand_over(
+            list,
+            m,
+            delivery,
+            a,
+            number,
+            store,
+            start,
+            len,
+            generation,
+            persisted,
+        );
+        words[parts::WAITING_NUMBERS + k] = number;
+        remote = number;
+        k += 1;
+        a += len;
+        start += len;
+        i += 1;
+    }
+    let turn = reach(t, remote, generation);
+    let s = Step {
+        turn: turn,
+        events: m,
+        at: a,
+        stop: Stop::No,
+    };
+    leave(words, k, s, i, Stop::No)
+}
+
+// ---- the drain
+
 // From frame `from` of the queue on, for as long as the host is available and the next message is there and deliverable. Its ack has the highest
 // number of those that wait.
 pub fn drain(
@@ -132,6 +239,24 @@ pub fn drain(
     requires { ⌜ Draining t (waitingIn (now words)) (queueIn (now words) (now halves) (now bytes)) from (now store) (books (now list) n (now delivery) at) ⌝ }
     ensures { λ r. ⌜ DrainsIn status t from (now (words .entry)) (now (halves .entry)) (now (bytes .entry)) (now (store .entry)) (books (now (list .entry)) n (now (delivery .entry)) at) r (now (words .exit)) (now (list .exit)) (now (delivery .exit)) ⌝ }
 {
+    let mode = t.mode;
+    if let ReceiveMode::Raw = mode {
+        if status.available {
+            return drain_raw(
+                t,
+                words,
+                halves,
+                bytes,
+                from,
+                store,
+                status,
+                list,
+                n,
+                delivery,
+                at,
+            );
+        }
+    }
     drain_each(
         t,
         words,
