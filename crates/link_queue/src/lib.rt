@@ -1,9 +1,13 @@
 // The frames that came too early, of a session that C lends, worked on where they lie.
 ghost use mathlib.Core.Path.{_≡_};
-ghost use mathlib.Core.List.{[]};
-ghost use Prim.Native.Nat.{_≤_};
+ghost use mathlib.Core.List.{List, []};
+ghost use Prim.Native.Nat.{ℕ, _≤_};
+ghost use lib.Dec.{eqb};
 ghost use lib.ListN.{length, drop};
+ghost use Rattle.rules.specs.Lists.{Bytes, if_then_else_, any};
+ghost use Rattle.rules.specs.State.{is-frame};
 ghost use Rattle.queue.specs.View.{framesOf, ExactQueue};
+ghost use Rattle.queue.specs.Steps.{Leads};
 ghost use Rattle.parts.specs.Parts.{at, queueIn};
 ghost use Rattle.link_queue.specs.Steps.{bodies, Summing, Requeued};
 use parts::Bytes;
@@ -27,6 +31,48 @@ pub fn start(halves: &Halves, k: usize) -> usize
         i += 1;
     }
     sum as usize
+}
+
+// ---- asked
+
+fn same_of(a: u64, b: u64) -> u64
+    ensures { λ r. ⌜ (r ≡ (if eqb a b then 1 else 0)) × (r ≤ 1) ⌝ }
+{
+    if a == b {
+        return 1;
+    }
+    0
+}
+
+// Whether a frame of this number is queued. All are looked at, as a frame that comes is mostly new.
+pub fn find(words: &Words, number: u64) -> bool
+    requires { ⌜ at (now words) 4 ≤ 256 ⌝ }
+    ensures { λ r. ⌜ ((h b : List ℕ) (o : Bytes) → r ≡ any (is-frame number) (framesOf (queueIn (now (words .entry)) h b) o)) ⌝ }
+{
+    let count = words[parts::QUEUED] as usize;
+    let mut sum: u64 = 0;
+    let mut i = 0;
+    while i < count {
+        sum += same_of(words[parts::QUEUED_NUMBERS + i], number);
+        i += 1;
+    }
+    0 < sum
+}
+
+// How many frames at the front have a number up to this one.
+pub fn up_to(words: &Words, number: u64) -> usize
+    requires { ⌜ at (now words) 4 ≤ 256 ⌝ }
+    ensures { λ r. ⌜ ((h b : List ℕ) → Leads number (queueIn (now (words .entry)) h b) r) ⌝ }
+{
+    let count = words[parts::QUEUED] as usize;
+    let mut i = 0;
+    while i < count {
+        if number < words[parts::QUEUED_NUMBERS + i] {
+            return i;
+        }
+        i += 1;
+    }
+    i
 }
 
 // ---- taken out
