@@ -1,6 +1,8 @@
-use Prim.Native.Nat.{_≤_}
-use lib.ListN.{length}
+use Prim.Native.Nat.{_≤_, _+_, _-_}
+use lib.ListN.{length, take, drop}
 use native.Mathlib.Omega.{arith}
+use mathlib.Core.Path.{refl}
+use Rattle.stores.specs.Placed.{placed}
 use Rattle.parts.specs.Parts.{at}
 use Rattle.link_queue.proofs.Sums.{summing, end-bodies, start-before}
 use Rattle.link_queue.proofs.Drops.{dropped-some}
@@ -12,20 +14,9 @@ use Rattle.link_queue.proofs.shed.Lts as lts
 use Rattle.link_moves.proofs.lower_bytes.Reads as lower-bytes-reads
 use Rattle.link_moves.proofs.lower_halves.Reads as lower-halves-reads
 use Rattle.link_moves.proofs.lower_words.Reads as lower-words-reads
+use Rattle.link_queue.proofs.lower_bodies.Reads as lower-bodies-reads
 use Rattle.link_queue.proofs.start.Reads as start-reads
 use Rattle.parts.proofs.full_words.Reads as full-words-reads
-use Rattle.stores.proofs.clear.Reads as clear-reads
-use Rattle.stores.proofs.move_down.Reads as move-down-reads
-
-within : (c : tie.After-start2) → c .before .before .start .result ≤ c .start2 .result
-within c =
-    let a = c .before .before .before .before .before .before .before .before in
-    omega (arith, c .before .before .start .ensures, c .start2 .ensures, start-before (a .args .words .now) (a .args .halves .now) (a .args .bytes .now) (a .args .k) (a .pre .0) (a .pre .1 .few))
-
-reach : (c : tie.After-start2) → c .start2 .result ≤ length (c .before .before .before .before .before .before .before .before .args .store .now)
-reach c =
-    let a = c .before .before .before .before .before .before .before .before in
-    omega (arith, c .start2 .ensures, end-bodies (a .args .words .now) (a .args .halves .now) (a .args .bytes .now) (a .pre .1 .few), a .pre .1 .small, a .pre .1 .room)
 
 full-words-requires : tie.Need-full-words-requires
 full-words-requires c κs = search needs
@@ -43,17 +34,13 @@ start-requires-2 c κs =
     let a = c .before .before .before .before .before .before .before in
     summing (a .args .words .now) (a .args .halves .now) (a .args .bytes .now) (at (a .args .words .now) 4) (omega arith) (a .pre .1 .few) (a .pre .1 .small)
 
-sub-to : tie.Need-sub-to
-sub-to c = within c
-
 sub-left : tie.Need-sub-left
 sub-left c = search needs
 
-move-down-requires : tie.Need-move-down-requires
-move-down-requires c κs = (omega arith, omega (arith, within (c .before), reach (c .before)))
-
-clear-requires : tie.Need-clear-requires
-clear-requires c κs = (omega arith, omega (arith, reach (c .before .before .before .before .before), c .before .before .before .move-down .kept .0))
+lower-bodies-requires : tie.Need-lower-bodies-requires
+lower-bodies-requires c κs =
+    let a = c .before .before .before .before .before .before .before .before .before in
+    (omega (arith, c .before .before .before .start .ensures, c .before .start2 .ensures, start-before (a .args .words .now) (a .args .halves .now) (a .args .bytes .now) (a .args .k) (a .pre .0) (a .pre .1 .few)), omega (arith, c .before .start2 .ensures, end-bodies (a .args .words .now) (a .args .halves .now) (a .args .bytes .now) (a .pre .1 .few), a .pre .1 .small, a .pre .1 .room))
 
 add-lower-words : tie.Need-add-lower-words
 add-lower-words c = search needs
@@ -81,11 +68,11 @@ same-length c = search needs
 
 returns : tie.Need-returns
 returns c =
-    let a = c .before .before .before .before .before .before .before .before .before .before .before .before .before .before .before .before .before .before .before .before .before .before in
-    dropped-some (a .args .words .now) (a .args .halves .now) (a .args .bytes .now) (a .args .store .now) (a .pre .1) (c .before .before .before .before .before .before .before .before .before .before .before .before .before .before .before .before .before .before .before .full-words .ensures)
+    let a = c .before .before .before .before .before .before .before .before .before .before .before .before .before .before .before .before .before .before in
+    dropped-some (a .args .words .now) (a .args .halves .now) (a .args .bytes .now) (a .args .store .now) (a .pre .1) (c .before .before .before .before .before .before .before .before .before .before .before .before .before .before .before .full-words .ensures)
     (a .args .k) (a .pre .0) (c .before .before .before .before .lower-words .last .0) (c .before .before .lower-halves .last .0) (c .lower-bytes .last .0) (c .before .before .before .before .lower-words .ensures) (c .before .before .lower-halves .ensures) (c .lower-bytes .ensures)
-    (c .before .before .before .before .before .before .before .before .before .before .before .before .before .before .before .before .start .result) (c .before .before .before .before .before .before .before .before .before .before .before .before .before .before .start2 .result) (c .before .before .before .before .before .before .before .before .before .before .before .before .before .before .before .before .start .ensures) (c .before .before .before .before .before .before .before .before .before .before .before .before .before .before .start2 .ensures)
-    (c .before .before .before .before .before .before .before .before .before .before .before .before .move-down .last .0) (c .before .before .before .before .before .before .before .before .clear .last .0) (c .before .before .before .before .before .before .before .before .before .before .before .before .move-down .ensures) (c .before .before .before .before .before .before .before .before .clear .ensures)
+    (c .before .before .before .before .before .before .before .before .before .before .before .before .start .result) (c .before .before .before .before .before .before .before .before .before .before .start2 .result) (c .before .before .before .before .before .before .before .before .before .before .before .before .start .ensures) (c .before .before .before .before .before .before .before .before .before .before .start2 .ensures)
+    (placed (a .args .store .now) 0 (take (c .before .before .before .before .before .before .before .before .before .before .start2 .result - c .before .before .before .before .before .before .before .before .before .before .before .before .start .result) (drop (c .before .before .before .before .before .before .before .before .before .before .before .before .start .result) (a .args .store .now)))) (c .before .before .before .before .before .before .before .before .lower-bodies .last .0) refl (c .before .before .before .before .before .before .before .before .lower-bodies .ensures)
 
 pub shed-spec : {M : Type 1} → statement M
 shed-spec =
@@ -95,10 +82,8 @@ shed-spec =
     element-copy-out-count
     start-requires
     start-requires-2
-    sub-to
     sub-left
-    move-down-requires
-    clear-requires
+    lower-bodies-requires
     add-lower-words
     lower-words-requires
     add-lower-halves
