@@ -1,4 +1,3 @@
 -- What the contracts of data in any mode cite: `Entry` the tests at the entry, `Steps` what must hold past them.
-pub mod Ending
 pub mod Entry
 pub mod Steps

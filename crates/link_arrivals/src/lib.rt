@@ -13,11 +13,12 @@ ghost use Rattle.parts.specs.Codes.{answerOf};
 ghost use Rattle.parts.specs.Parts.{parts, openedOf};
 ghost use Rattle.parts.specs.Driven.{Driven};
 ghost use Rattle.link_numbers.specs.Sets.{Rising};
-ghost use Rattle.link_arrivals.specs.Ending.{endedOf};
+ghost use Rattle.link_draining.specs.Endings.{endedOf};
 ghost use Rattle.link_arrivals.specs.Entry.{Enters};
 ghost use Rattle.link_arrivals.specs.Steps.{Countable, Filled, Judged, Arriving, Receiving, Taking};
 use delivery::Turn;
 use events::Stop;
+use link_draining::Ending;
 use parts::Bytes;
 use parts::Halves;
 use parts::LinkAnswer;
@@ -28,12 +29,6 @@ use rules::Answer;
 use rules::HostStatus;
 use rules::Refusal;
 
-pub mod stub;
-
-pub struct Ending {
-    pub events: usize,
-    pub stop: Stop,
-}
 
 // ---- the tests at the entry of a call that takes all four buffers
 
@@ -89,7 +84,7 @@ fn acks_full(words: &Words, number: u64) -> bool
     if link_numbers::has(words, parts::WAITING_NUMBERS, waiting, number) {
         return false;
     }
-    if stub::find(words, number) {
+    if link_queue::find(words, number) {
         return false;
     }
     if words[parts::REMOTE] < number {
@@ -183,7 +178,7 @@ fn take_now(
     let turn = a.turn;
     let stop = a.stop;
     match stop {
-        Stop::By(x) => stub::abandon(
+        Stop::By(x) => link_draining::abandon(
             words,
             halves,
             bytes,
@@ -196,11 +191,11 @@ fn take_now(
             x,
         ),
         Stop::No => {
-            let from = stub::up_to(words, number);
+            let from = link_queue::up_to(words, number);
             link_numbers::put(words, parts::WAITING_NUMBERS, parts::WAITING, number);
             let c = turn.clock;
             let n = events::request(c, list, a.events);
-            stub::carry(
+            link_draining::carry(
                 words,
                 halves,
                 bytes,
@@ -241,23 +236,23 @@ fn enqueue(
     parts::full_words(words);
     parts::full_bytes(bytes);
     let c = link_codes::reading::clock_in(halves, clock);
-    if stub::find(words, number) {
+    if link_queue::find(words, number) {
         let n = events::request(c, list, 0);
-        return stub::carry(
+        return link_draining::carry(
             words, halves, bytes, clock, t, 0, status, list, n, delivery, 0, outbound, queue,
         );
     }
     let count = words[parts::QUEUED];
     if words[parts::POLICY_MESSAGES] < count + 1 {
-        return stub::fail(words, halves, bytes, clock, list, 0, queue, Refusal::QueueCount);
+        return link_draining::fail(words, halves, bytes, clock, list, 0, queue, Refusal::QueueCount);
     }
     let used = link_queue::start(halves, count as usize);
     if words[parts::POLICY_BYTES] < (used + body.len()) as u64 {
-        return stub::fail(words, halves, bytes, clock, list, 0, queue, Refusal::QueueBytes);
+        return link_draining::fail(words, halves, bytes, clock, list, 0, queue, Refusal::QueueBytes);
     }
-    stub::insert(words, halves, bytes, queue, number, kind, body);
+    link_queue::insert(words, halves, bytes, queue, number, kind, body);
     let n = events::request(c, list, 0);
-    stub::carry(
+    link_draining::carry(
         words, halves, bytes, clock, t, 0, status, list, n, delivery, 0, outbound, queue,
     )
 }
@@ -279,7 +274,7 @@ fn receive_new(
     requires { ⌜ Receiving (frameOf number kind (now body)) (now words) (now halves) (now bytes) (now clock) (now list) (now delivery) (now outbound) (now queue) ⌝ }
     ensures { λ r. ⌜ Anew status (frameOf number kind (now (body .entry))) (openedOf (parts (now (words .entry)) (now (halves .entry)) (now (bytes .entry)) (now (clock .entry)))) (now (list .entry)) (now (delivery .entry)) (now (outbound .entry)) (now (queue .entry)) (endedOf (openedOf (parts (now (words .exit)) (now (halves .exit)) (now (bytes .exit)) (now (clock .exit)))) r) (now (list .exit)) (now (delivery .exit)) (now (outbound .exit)) (now (queue .exit)) ⌝ }
 {
-    let t = stub::turn_of(words, halves, bytes, clock);
+    let t = link_draining::turn_of(words, halves, bytes, clock);
     if receiving::delivers(t, status, number, kind) {
         return take_now(
             words, halves, bytes, clock, t, status, list, delivery, outbound, queue, number, kind,
@@ -323,7 +318,7 @@ pub fn receive(
     match verdict {
         Verdict::Refuse(x) => link_codes::refusal(x),
         Verdict::Fail(x) => {
-            let e = stub::fail(words, halves, bytes, clock, list, 0, queue, x);
+            let e = link_draining::fail(words, halves, bytes, clock, list, 0, queue, x);
             answered(e)
         }
         Verdict::Again => {

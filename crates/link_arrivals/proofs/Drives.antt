@@ -1,0 +1,95 @@
+-- Data in any mode, driven. Assumes nothing.
+use mathlib.Core.Path.{_≡_, refl, sym, _∙_}
+use mathlib.Core.Bool.{Bool, true, false}
+use mathlib.Core.List.{List}
+use Prim.Native.Nat.{ℕ, _+_, _*_, _≤_, _<_}
+use lib.Ieee.{Float}
+use lib.ListN.{length}
+use Rattle.rules.specs.declared.HostStatus.{HostStatus}
+use Rattle.rules.specs.declared.Refusal.{Refusal}
+use Rattle.rules.specs.declared.Answer.the-variants.{Flag, Refused}
+use Rattle.rules.specs.Lists.{Bytes}
+use Rattle.rules.specs.State.{Frame}
+use Rattle.rules.specs.Calls.{gets-data}
+use Rattle.peer_session.specs.declared.SessionState.{SessionState}
+use Rattle.peer_session.specs.Sound as Sounds
+use Rattle.session.specs.declared.Returned.{Returned}
+use Rattle.session.specs.Promise.{lent, Called}
+use Rattle.delivery.specs.declared.Turn.{Turn}
+use Rattle.draining.specs.Arrived.{told}
+use Rattle.draining.specs.Turns.{turnOf}
+use Rattle.draining.specs.Ends.{Fails}
+use Rattle.receiving.specs.declared.Verdict.{Verdict}
+use Rattle.receiving.specs.declared.Verdict.the-variants.{Refuse, Fail, Again, New}
+use Rattle.receiving.specs.Checks.{Acknowledges, Acknowledging, Anew, Delivers}
+use Rattle.receiving.proofs.Data.{check-fits, fail-fits, refused-by, failed-by, again-fits, again-by, new-fits, new-by}
+use Rattle.receiving.proofs.Next.{new-above, taking}
+use Rattle.parts.specs.declared.LinkAnswer.{LinkAnswer}
+use Rattle.parts.specs.Codes.{good-codes, answerOf}
+use Rattle.parts.specs.Parts.{Parts, parts, at, codesIn, openedOf}
+use Rattle.parts.specs.Driven.{Driven}
+use Rattle.parts.proofs.Drives.{refuses, changes}
+use Rattle.link_numbers.specs.Sets.{Rising}
+use Rattle.link_sound.proofs.Parts.{usable}
+use Rattle.link_draining.specs.declared.Ending.{Ending}
+use Rattle.link_draining.specs.Endings.{endedOf}
+use Rattle.link_draining.specs.Steps.{Failing}
+use Rattle.link_arrivals.specs.Steps.{Countable, Judged, Arriving, Receiving, Taking}
+
+module _ (status : HostStatus) (f : Frame) (w h b : List ℕ) (t : Float) (l : List ℕ) (d o q : Bytes) (pre : Arriving f w h b t l d o q) where
+  abbrev p : Parts
+  p = parts w h b t
+
+  checked : Sounds.Checked (openedOf p) true
+  checked = record { is = sym (pre .arrived .good); full = pre .arrived .full }
+
+  pub countable : Countable w
+  unfolding openedOf
+  countable = record { waits = check-fits (pre .arrived) .0; few = check-fits (pre .arrived) .1 }
+
+  pub may-fail : Failing w h b 0 (length l) (length q)
+  unfolding openedOf
+  may-fail = record { queued = fail-fits (pre .arrived) .0; room = fail-fits (pre .arrived) .1; codes = usable w h b t checked .codes }
+
+  module _ {v : Verdict} (j : Judged (f .number) (length (f .body)) w v) where
+    pub refused : (x : Refusal) → v ≡ Refuse x → {y : LinkAnswer} → y ≡ answerOf (Refused x) 0
+        → Driven p p y (λ s r. Called (gets-data status f) s (lent l d o q) r (lent l d o q))
+    refused x e a = refuses p x a (λ r tu. refused-by status f (openedOf p) l d o q (pre .arrived) (pre .kind) (j h b t) e tu)
+
+    pub may-acknowledge : v ≡ Again → Acknowledging (f .number) (openedOf p) (length l) × Rising 272 5 w
+    may-acknowledge e = (again-fits status f (openedOf p) l d o q (pre .arrived) (pre .kind) (j h b t) e, usable w h b t checked .waiting)
+
+    pub may-receive : v ≡ New → Receiving f w h b t l d o q
+    may-receive e = record { checked = checked; receiving = new-fits status f (openedOf p) l d o q (pre .arrived) (pre .kind) (j h b t) e }
+
+    module _ (p′ : Parts) {r : Ending} {y : LinkAnswer} (a : y ≡ answerOf (told (Flag true) (r .stop)) (r .events)) where
+      pub failed : (x : Refusal) → v ≡ Fail x → {l′ : List ℕ} {q′ : Bytes} → Fails x (openedOf p) l 0 q (endedOf (openedOf p′) r) l′ q′
+          → Driven p p′ y (λ s z. Called (gets-data status f) s (lent l d o q) z (lent l′ d o q′))
+      failed x e c =
+          changes p (pre .arrived .good) p′ (openedOf p′) refl (told (Flag true) (r .stop)) (r .events) a
+          (failed-by status f (openedOf p) l d o q (pre .arrived) (pre .kind) (j h b t) e c refl)
+
+      pub acknowledged : v ≡ Again → {l′ : List ℕ} → Acknowledges (f .number) (openedOf p) l (endedOf (openedOf p′) r) l′
+          → Driven p p′ y (λ s z. Called (gets-data status f) s (lent l d o q) z (lent l′ d o q))
+      acknowledged e c =
+          changes p (pre .arrived .good) p′ (openedOf p′) refl (told (Flag true) (r .stop)) (r .events) a
+          (again-by status f (openedOf p) l d o q (pre .arrived) (pre .kind) (j h b t) e c refl)
+
+      pub received : v ≡ New → {l′ : List ℕ} {d′ o′ q′ : Bytes} → Anew status f (openedOf p) l d o q (endedOf (openedOf p′) r) l′ d′ o′ q′
+          → Driven p p′ y (λ s z. Called (gets-data status f) s (lent l d o q) z (lent l′ d′ o′ q′))
+      received e c =
+          changes p (pre .arrived .good) p′ (openedOf p′) refl (told (Flag true) (r .stop)) (r .events) a
+          (new-by status f (openedOf p) l d o q (pre .arrived) (pre .kind) (j h b t) e c refl)
+
+-- ---- data that is no duplicate
+
+module _ {f : Frame} (w h b : List ℕ) (t : Float) {l : List ℕ} {d o q : Bytes} (pre : Receiving f w h b t l d o q) where
+  pub codes : good-codes (codesIn h b) ≡ true
+  codes = usable w h b t (pre .checked) .codes
+
+  module _ {u : Turn} (e : u ≡ turnOf (openedOf (parts w h b t))) where
+    pub above : u .remote < f .number
+    above = new-above (pre .receiving) e
+
+    pub choosing : (now : Bool) (status : HostStatus) {r : Bool} → Delivers status (f .number) (f .kind) u r → r ≡ now → Taking now status u f w h b t l d o q
+    choosing now status g z = record { checked = pre .checked; taking = taking now status (pre .receiving) e g z }
