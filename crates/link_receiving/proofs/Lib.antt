@@ -1,4 +1,4 @@
--- The laws of data in place: `Idle` a drain that takes nothing; `Calls` the two ways as the driver's call; `Queues` a frame that goes in after those queued; `Opens` the session
+-- The laws of data in place: `Idle` a drain that takes nothing; `Calls` the two ways as the driver's call; `Queues` a number above all queued; `Opens` the session
 -- that the parts are then; `Drives` the two ways driven; `Repeats` a duplicate; `Ways` the choice; `Values` data by value.
 pub mod Idle
 pub mod Calls
