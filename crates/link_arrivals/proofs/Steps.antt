@@ -244,7 +244,7 @@ module _ {status : HostStatus} {u : Turn} {f : Frame} (w h b : List ℕ) (t : Fl
 
           codes-kept : good-codes (codesIn h₁ b₁) ≡ true
           codes-kept =
-              ap good-codes (codes-same {h} {h₁} {b} {b₁} (record { same = λ i x y. p .only .clock i (omega arith) }) (record { same = λ i x y. p .only .rest i (omega arith) })) ∙ good-later
+              ap good-codes (codes-same {h = h} {h′ = h₁} {b = b} {b′ = b₁} (record { same = λ i x y. p .only .clock i (omega arith) }) (record { same = λ i x y. p .only .rest i (omega arith) })) ∙ good-later
 
           pub carrying-joined : length l₁ ≡ length l → Carrying u (waitingIn w₁) 0 T l₁ n d 0 o q₁ × (good-codes (codesIn h₁ b₁) ≡ true)
           unfolding openedOf
