@@ -1,16 +1,21 @@
 -- Data in any mode, driven. Assumes nothing.
-use mathlib.Core.Path.{_≡_, refl, sym, _∙_}
+use mathlib.Core.Path.{_≡_, refl, sym, _∙_, subst}
 use mathlib.Core.Bool.{Bool, true, false}
 use mathlib.Core.List.{List}
 use Prim.Native.Nat.{ℕ, _+_, _*_, _≤_, _<_}
 use lib.Ieee.{Float}
 use lib.ListN.{length}
+use lib.Dec.{ltb}
+use borrow.Author.Tests.{ltb-false}
 use Rattle.rules.specs.declared.HostStatus.{HostStatus}
 use Rattle.rules.specs.declared.Refusal.{Refusal}
 use Rattle.rules.specs.declared.Answer.the-variants.{Flag, Refused}
 use Rattle.rules.specs.Lists.{Bytes}
 use Rattle.rules.specs.State.{Frame}
 use Rattle.rules.specs.Calls.{gets-data}
+use Rattle.rules.specs.Buffers.{wrong-code}
+use Rattle.events.specs.declared.Stop.{Stop}
+use Rattle.events.specs.declared.Stop.the-variants.{No, By}
 use Rattle.peer_session.specs.declared.SessionState.{SessionState}
 use Rattle.peer_session.specs.Sound as Sounds
 use Rattle.session.specs.declared.Returned.{Returned}
@@ -22,7 +27,8 @@ use Rattle.draining.specs.Ends.{Fails}
 use Rattle.receiving.specs.declared.Verdict.{Verdict}
 use Rattle.receiving.specs.declared.Verdict.the-variants.{Refuse, Fail, Again, New}
 use Rattle.receiving.specs.Checks.{Acknowledges, Acknowledging, Anew, Delivers}
-use Rattle.receiving.proofs.Data.{check-fits, fail-fits, refused-by, failed-by, again-fits, again-by, new-fits, new-by}
+use Rattle.receiving.proofs.Checks.{spent, spent-reach}
+use Rattle.receiving.proofs.Data.{data-takes, check-fits, fail-fits, refused-by, failed-by, again-fits, again-by, new-fits, new-by}
 use Rattle.receiving.proofs.Next.{new-above, taking}
 use Rattle.parts.specs.declared.LinkAnswer.{LinkAnswer}
 use Rattle.parts.specs.Codes.{good-codes, answerOf}
@@ -34,6 +40,7 @@ use Rattle.link_sound.proofs.Parts.{usable}
 use Rattle.link_draining.specs.declared.Ending.{Ending}
 use Rattle.link_draining.specs.Endings.{endedOf}
 use Rattle.link_draining.specs.Steps.{Failing}
+use Rattle.link_arrivals.specs.Entry.{Spends, Passing, Found, Enters}
 use Rattle.link_arrivals.specs.Steps.{Countable, Judged, Arriving, Receiving, Taking}
 
 module _ (status : HostStatus) (f : Frame) (w h b : List ℕ) (t : Float) (l : List ℕ) (d o q : Bytes) (pre : Arriving f w h b t l d o q) where
@@ -93,3 +100,42 @@ module _ {f : Frame} (w h b : List ℕ) (t : Float) {l : List ℕ} {d o q : Byte
 
     pub choosing : (now : Bool) (status : HostStatus) {r : Bool} → Delivers status (f .number) (f .kind) u r → r ≡ now → Taking now status u f w h b t l d o q
     choosing now status g z = record { checked = pre .checked; taking = taking now status (pre .receiving) e g z }
+
+-- ---- the call
+
+data-code : (status : HostStatus) (f : Frame) → wrong-code (gets-data status f) ≡ ltb 2 (f .kind)
+unfolding wrong-code
+data-code status f = refl
+
+spends : (status : HostStatus) (f : Frame) → ltb 2 (f .kind) ≡ false → Spends (gets-data status f)
+spends status f e =
+    let k : f .kind ≤ 2 = ltb-false 2 (f .kind) e in
+    record { reach = λ s g. spent-reach status f s k g; refuses = λ s g. spent status f s k g }
+
+module _ (status : HostStatus) (f : Frame) (w h b : List ℕ) (t : Float) (l : List ℕ) (d o q : Bytes) {z : Stop}
+    (e : Enters w h b (ltb 2 (f .kind)) (length l) (length d) (length o) (length q) z) where
+  found : (y : Stop) → z ≡ y → Found (parts w h b t) (ltb 2 (f .kind)) (length l) (length d) (length o) (length q) y
+  found y x = subst (λ (v : Stop). Found (parts w h b t) (ltb 2 (f .kind)) (length l) (length d) (length o) (length q) v) x (e .found t)
+
+  pub stopped : (x : Refusal) → z ≡ By x → {y : LinkAnswer} → y ≡ answerOf (Refused x) 0
+      → Driven (parts w h b t) (parts w h b t) y (λ s r. Called (gets-data status f) s (lent l d o q) r (lent l d o q))
+  stopped x ez a =
+      refuses (parts w h b t) x a
+      (λ r tu. found (By x) ez .call (gets-data status f) (data-takes status f) (data-code status f) (spends status f) l d o q refl refl refl refl r tu)
+
+  pub arriving : z ≡ No → Arriving f w h b t l d o q
+  arriving ez =
+      let k : Passing (parts w h b t) (ltb 2 (f .kind)) (length l) (length d) (length o) (length q) = found No ez in
+      record {
+        arrived =
+            record {
+              good = sym (k .checked .is);
+              full = k .checked .full;
+              list = k .list;
+              delivery = k .delivery;
+              outbound = k .outbound;
+              queue = k .queue;
+              low = k .low;
+            };
+        kind = ltb-false 2 (f .kind) (k .known);
+      }

@@ -334,3 +334,49 @@ pub fn receive(
         }
     }
 }
+
+// The Rust's `receive_data`: a peer's data, with the kind of its body.
+pub fn data(
+    words: &mut Words,
+    halves: &mut Halves,
+    bytes: &mut Bytes,
+    clock: &mut f64,
+    list: &mut [u64],
+    delivery: &mut [u8],
+    outbound: &mut [u8],
+    queue: &mut [u8],
+    status: HostStatus,
+    number: u64,
+    kind: u64,
+    body: &[u8],
+) -> LinkAnswer
+    ensures { λ x. ⌜ Driven (parts (now (words .entry)) (now (halves .entry)) (now (bytes .entry)) (now (clock .entry))) (parts (now (words .exit)) (now (halves .exit)) (now (bytes .exit)) (now (clock .exit))) x (λ s y. Called (gets-data status (frameOf number kind (now (body .entry)))) s (lent (now (list .entry)) (now (delivery .entry)) (now (outbound .entry)) (now (queue .entry))) y (lent (now (list .exit)) (now (delivery .exit)) (now (outbound .exit)) (now (queue .exit)))) ⌝ }
+{
+    let stop = enters(
+        words,
+        halves,
+        bytes,
+        list.len(),
+        delivery.len(),
+        outbound.len(),
+        queue.len(),
+        2 < kind,
+    );
+    match stop {
+        Stop::By(x) => link_codes::refusal(x),
+        Stop::No => receive(
+            words,
+            halves,
+            bytes,
+            clock,
+            list,
+            delivery,
+            outbound,
+            queue,
+            status,
+            number,
+            kind as u8,
+            body,
+        ),
+    }
+}
