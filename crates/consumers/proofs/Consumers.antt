@@ -107,18 +107,18 @@ none-obsolete s r =
 -- ---- the rule
 
 module _ (status : HostStatus) (mode : ℕ) (t : State) (known : mode ≤ 4) where
-  spent : 4294966000 ≤ t .clock .generation → step (is-ready status mode) t ≡ outcome t (Refused GenerationsExhausted) []
+  pub ready-spent : 4294966000 ≤ t .clock .generation → step (is-ready status mode) t ≡ outcome t (Refused GenerationsExhausted) []
   unfolding step consumer-ready
-  spent h = rw (le-ltb 4 mode known, le-leb 4294966000 (t .clock .generation) h)
+  ready-spent h = rw (le-ltb 4 mode known, le-leb 4294966000 (t .clock .generation) h)
 
   drained : t .clock .generation < 4294966000
       → step (is-ready status mode) t ≡ answers Done (forgiven (drop-obsolete (mode-is (mode-of mode) t) then drain status))
   unfolding step consumer-ready
   drained h = rw (le-ltb 4 mode known, lt-leb 4294966000 (t .clock .generation) h)
 
-reach : (status : HostStatus) (mode : ℕ) (t : State) → queue-reach (is-ready status mode) t ≡ queue-end t
+pub ready-reach : (status : HostStatus) (mode : ℕ) (t : State) → queue-reach (is-ready status mode) t ≡ queue-end t
 unfolding queue-reach
-reach status mode t = refl
+ready-reach status mode t = refl
 
 -- ---- the call
 
@@ -172,7 +172,7 @@ module _ (status : HostStatus) (mode : ℕ) (s : SessionState) (l : List ℕ) (d
       let T : State = stateOf r o q in
       let n : drop-obsolete (mode-is (mode-of mode) S) ≡ stays T = none-obsolete T (good .sound .1 .order) in
       let st : Stores s (queue-reach (is-ready status mode) S) o q (e .session) o′ q′ =
-      subst (λ (j : ℕ). Stores s j o q (e .session) o′ q′) (sym (reach status mode S ∙ frames-total (s .queue) q (good .exact .queued)))
+      subst (λ (j : ℕ). Stores s j o q (e .session) o′ q′) (sym (ready-reach status mode S ∙ frames-total (s .queue) q (good .exact .queued)))
       (record { exact = c₂ .stores .exact; outbound = c₂ .stores .outbound; queue = c₂ .stores .queue }) in
       Calls.comes (is-ready status mode) (ready-takes status mode) s l d o q (a .list) (a .delivery) (a .outbound) (a .queue) (ready-known status mode k) (a .good)
       (arrived-entered s l d o q a) st (forgiven (stays T then drain status)) Done
@@ -186,4 +186,4 @@ pub exhausted : (status : HostStatus) (mode : ℕ) (s : SessionState) (l : List 
     → Called (is-ready status mode) s (lent l d o q) r (lent l d o q)
 exhausted status mode s l d o q ll ld lo lq k sound full h t =
     Calls.refused (is-ready status mode) (ready-takes status mode) s l d o q ll ld lo lq (ready-known status mode k) sound (entered s o q sound full lo lq) t
-    (reach status mode (stateOf s o q)) (spent status mode (stateOf s o q) k h)
+    (ready-reach status mode (stateOf s o q)) (ready-spent status mode (stateOf s o q) k h)

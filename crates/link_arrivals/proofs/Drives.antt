@@ -40,7 +40,8 @@ use Rattle.link_sound.proofs.Parts.{usable}
 use Rattle.link_draining.specs.declared.Ending.{Ending}
 use Rattle.link_draining.specs.Endings.{endedOf}
 use Rattle.link_draining.specs.Steps.{Failing}
-use Rattle.link_arrivals.specs.Entry.{Spends, Passing, Found, Enters}
+use Rattle.link_arrivals.specs.Entry.{Spends, Enters}
+use Rattle.link_arrivals.proofs.Entry.{found-by, arrives}
 use Rattle.link_arrivals.specs.Steps.{Countable, Judged, Arriving, Receiving, Taking}
 
 module _ (status : HostStatus) (f : Frame) (w h b : List ℕ) (t : Float) (l : List ℕ) (d o q : Bytes) (pre : Arriving f w h b t l d o q) where
@@ -114,28 +115,11 @@ spends status f e =
 
 module _ (status : HostStatus) (f : Frame) (w h b : List ℕ) (t : Float) (l : List ℕ) (d o q : Bytes) {z : Stop}
     (e : Enters w h b (ltb 2 (f .kind)) (length l) (length d) (length o) (length q) z) where
-  found : (y : Stop) → z ≡ y → Found (parts w h b t) (ltb 2 (f .kind)) (length l) (length d) (length o) (length q) y
-  found y x = subst (λ (v : Stop). Found (parts w h b t) (ltb 2 (f .kind)) (length l) (length d) (length o) (length q) v) x (e .found t)
-
   pub stopped : (x : Refusal) → z ≡ By x → {y : LinkAnswer} → y ≡ answerOf (Refused x) 0
       → Driven (parts w h b t) (parts w h b t) y (λ s r. Called (gets-data status f) s (lent l d o q) r (lent l d o q))
   stopped x ez a =
       refuses (parts w h b t) x a
-      (λ r tu. found (By x) ez .call (gets-data status f) (data-takes status f) (data-code status f) (spends status f) l d o q refl refl refl refl r tu)
+      (λ r tu. found-by l d o q e t (By x) ez .call (gets-data status f) (data-takes status f) (data-code status f) (spends status f) l d o q refl refl refl refl r tu)
 
   pub arriving : z ≡ No → Arriving f w h b t l d o q
-  arriving ez =
-      let k : Passing (parts w h b t) (ltb 2 (f .kind)) (length l) (length d) (length o) (length q) = found No ez in
-      record {
-        arrived =
-            record {
-              good = sym (k .checked .is);
-              full = k .checked .full;
-              list = k .list;
-              delivery = k .delivery;
-              outbound = k .outbound;
-              queue = k .queue;
-              low = k .low;
-            };
-        kind = ltb-false 2 (f .kind) (k .known);
-      }
+  arriving ez = record { arrived = arrives l d o q e t ez; kind = ltb-false 2 (f .kind) (found-by l d o q e t No ez .known) }

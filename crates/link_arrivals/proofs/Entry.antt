@@ -7,13 +7,16 @@ use native.Mathlib.Omega.{arith}
 use lib.Ieee.{Float}
 use lib.ListN.{length}
 use Rattle.rules.specs.declared.Refusal.the-variants.{ShortBuffer, UnknownCode, BadRecord, GenerationsExhausted}
+use Rattle.rules.specs.Lists.{Bytes}
+use Rattle.events.specs.declared.Stop.{Stop}
 use Rattle.events.specs.declared.Stop.the-variants.{No, By}
 use Rattle.peer_session.specs.Sound.{Checked}
 use Rattle.peer_session.specs.View.{stateOf}
 use Rattle.session.proofs.Entry.{entered}
+use Rattle.draining.specs.Arrived.{Arrived}
 use Rattle.draining.proofs.Calls as Calls
-use Rattle.parts.specs.Parts.{parts, at, openedOf}
-use Rattle.link_arrivals.specs.Entry.{Passing, Stopped, Enters}
+use Rattle.parts.specs.Parts.{Parts, parts, at, openedOf}
+use Rattle.link_arrivals.specs.Entry.{Passing, Stopped, Found, Enters}
 
 module _ (w h b : List ℕ) (wrong : Bool) (nl nd nu nq : ℕ) where
   pub list-short : nl < 4096 → Enters w h b wrong nl nd nu nq (By ShortBuffer)
@@ -89,3 +92,22 @@ module _ (w h b : List ℕ) (wrong : Bool) (nl nd nu nq : ℕ) where
                           low = g;
                         };
                   }
+
+-- ---- what a caller has of them
+
+module _ {w h b : List ℕ} {wrong : Bool} (l : List ℕ) (d o q : Bytes) {z : Stop} (e : Enters w h b wrong (length l) (length d) (length o) (length q) z) (t : Float) where
+  pub found-by : (y : Stop) → z ≡ y → Found (parts w h b t) wrong (length l) (length d) (length o) (length q) y
+  found-by y x = subst (λ (v : Stop). Found (parts w h b t) wrong (length l) (length d) (length o) (length q) v) x (e .found t)
+
+  pub arrives : z ≡ No → Arrived (openedOf (parts w h b t)) l d o q
+  arrives x =
+      let k : Passing (parts w h b t) wrong (length l) (length d) (length o) (length q) = found-by No x in
+      record {
+        good = sym (k .checked .is);
+        full = k .checked .full;
+        list = k .list;
+        delivery = k .delivery;
+        outbound = k .outbound;
+        queue = k .queue;
+        low = k .low;
+      }

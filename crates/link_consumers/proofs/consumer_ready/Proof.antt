@@ -1,0 +1,51 @@
+use native.Mathlib.Omega.{arith}
+use Rattle.link_consumers.proofs.Drives.{stopped, readying}
+use borrow.Author.Needs.{needs}
+use Rattle.link_consumers.proofs.consumer_ready.Statement.{statement}
+use Rattle.link_consumers.proofs.consumer_ready.Tie as tie
+use Rattle.link_consumers.proofs.consumer_ready.Reads as reads
+use Rattle.link_consumers.proofs.consumer_ready.Lts as lts
+use Rattle.link_arrivals.proofs.enters.Reads as enters-reads
+use Rattle.link_codes.proofs.refusal.Reads as refusal-reads
+use Rattle.link_consumers.proofs.ready.Reads as ready-reads
+
+enters-requires : tie.Need-enters-requires
+enters-requires c κs = search needs
+
+enum-known-stop : tie.Need-enum-known-stop
+enum-known-stop c = search needs
+
+refusal-requires : tie.Need-refusal-requires
+refusal-requires c κs = search needs
+
+enum-told : tie.Need-enum-told
+enum-told c = search needs
+
+cast-ready : tie.Need-cast-ready
+cast-ready c = omega (arith, readying (c .before .before .before .before .before .before .before .before .before .before .before .before .before .before .before .before .before .before .args .status) (c .before .before .before .before .before .before .before .before .before .before .before .before .before .before .before .before .before .before .args .mode) (c .before .before .before .before .before .before .before .before .before .before .before .before .before .before .before .before .before .before .args .words .now) (c .before .before .before .before .before .before .before .before .before .before .before .before .before .before .before .before .before .before .args .halves .now) (c .before .before .before .before .before .before .before .before .before .before .before .before .before .before .before .before .before .before .args .bytes .now) (c .before .before .before .before .before .before .before .before .before .before .before .before .before .before .before .before .before .before .args .clock .now) (c .before .before .before .before .before .before .before .before .before .before .before .before .before .before .before .before .before .before .args .list .now) (c .before .before .before .before .before .before .before .before .before .before .before .before .before .before .before .before .before .before .args .delivery .now) (c .before .before .before .before .before .before .before .before .before .before .before .before .before .before .before .before .before .before .args .outbound .now) (c .before .before .before .before .before .before .before .before .before .before .before .before .before .before .before .before .before .before .args .queue .now) (c .before .before .before .before .before .before .before .before .before .before .enters .ensures) (c .before .before .before .before .before .before .before .before .enum-told .given .1) .known)
+
+ready-requires : tie.Need-ready-requires
+ready-requires c κs = readying (c .before .before .before .before .before .before .before .before .before .before .before .before .before .before .before .before .before .before .args .status) (c .before .before .before .before .before .before .before .before .before .before .before .before .before .before .before .before .before .before .args .mode) (c .before .before .before .before .before .before .before .before .before .before .before .before .before .before .before .before .before .before .args .words .now) (c .before .before .before .before .before .before .before .before .before .before .before .before .before .before .before .before .before .before .args .halves .now) (c .before .before .before .before .before .before .before .before .before .before .before .before .before .before .before .before .before .before .args .bytes .now) (c .before .before .before .before .before .before .before .before .before .before .before .before .before .before .before .before .before .before .args .clock .now) (c .before .before .before .before .before .before .before .before .before .before .before .before .before .before .before .before .before .before .args .list .now) (c .before .before .before .before .before .before .before .before .before .before .before .before .before .before .before .before .before .before .args .delivery .now) (c .before .before .before .before .before .before .before .before .before .before .before .before .before .before .before .before .before .before .args .outbound .now) (c .before .before .before .before .before .before .before .before .before .before .before .before .before .before .before .before .before .before .args .queue .now) (c .before .before .before .before .before .before .before .before .before .before .enters .ensures) (c .before .before .before .before .before .before .before .before .enum-told .given .1)
+
+returns : tie.Need-returns
+returns c = stopped (c .before .before .before .before .before .before .before .before .before .before .before .before .args .status) (c .before .before .before .before .before .before .before .before .before .before .before .before .args .mode) (c .before .before .before .before .before .before .before .before .before .before .before .before .args .words .now) (c .before .before .before .before .before .before .before .before .before .before .before .before .args .halves .now) (c .before .before .before .before .before .before .before .before .before .before .before .before .args .bytes .now) (c .before .before .before .before .before .before .before .before .before .before .before .before .args .clock .now) (c .before .before .before .before .before .before .before .before .before .before .before .before .args .list .now) (c .before .before .before .before .before .before .before .before .before .before .before .before .args .delivery .now) (c .before .before .before .before .before .before .before .before .before .before .before .before .args .outbound .now) (c .before .before .before .before .before .before .before .before .before .before .before .before .args .queue .now) (c .before .before .before .before .enters .ensures) (c .before .before .stop .given .0 .0) (c .before .before .stop .given .1) (c .refusal .ensures)
+
+same-length : tie.Need-same-length
+same-length c = search needs
+
+same-length-2 : tie.Need-same-length-2
+same-length-2 c = search needs
+
+same-length-3 : tie.Need-same-length-3
+same-length-3 c = search needs
+
+same-length-4 : tie.Need-same-length-4
+same-length-4 c = search needs
+
+returns-2 : tie.Need-returns-2
+returns-2 c = c .before .before .before .before .before .before .before .before .ready .ensures
+
+pub consumer-ready-spec : {M : Type 1} → statement M
+consumer-ready-spec =
+    tie.close
+    (tie.spec enters-requires enum-known-stop refusal-requires enum-told cast-ready ready-requires returns same-length same-length-2 same-length-3 same-length-4 returns-2)

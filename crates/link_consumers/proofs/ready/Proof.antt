@@ -1,0 +1,46 @@
+use native.Mathlib.Omega.{arith}
+use Rattle.link_consumers.proofs.Drives.{codes, carrying, done}
+use borrow.Author.Needs.{needs}
+use Rattle.link_consumers.proofs.ready.Statement.{statement}
+use Rattle.link_consumers.proofs.ready.Tie as tie
+use Rattle.link_consumers.proofs.ready.Reads as reads
+use Rattle.link_consumers.proofs.ready.Lts as lts
+use Rattle.link_codes.proofs.plain.Reads as plain-reads
+use Rattle.link_draining.proofs.carry.Reads as carry-reads
+use Rattle.link_draining.proofs.turn_of.Reads as turn-of-reads
+use Rattle.parts.proofs.full_bytes.Reads as full-bytes-reads
+
+full-bytes-requires : tie.Need-full-bytes-requires
+full-bytes-requires c κs = search needs
+
+element-write-bytes : tie.Need-element-write-bytes
+element-write-bytes c = search needs
+
+turn-of-requires : tie.Need-turn-of-requires
+turn-of-requires c κs = codes (c .before .before .before .before .before .before .before .before .before .before .args .status) (c .before .before .before .before .before .before .before .before .before .before .args .mode) (c .before .before .before .before .before .before .before .before .before .before .args .words .now) (c .before .before .before .before .before .before .before .before .before .before .args .halves .now) (c .before .before .before .before .before .before .before .before .before .before .args .bytes .now) (c .before .before .before .before .before .before .before .before .before .before .args .clock .now) (c .before .before .before .before .before .before .before .before .before .before .pre) (omega (arith, c .before .before .before .before .full-bytes .ensures))
+
+carry-requires : tie.Need-carry-requires
+carry-requires c κs = carrying (c .before .before .before .before .before .before .before .before .before .before .before .before .before .before .before .before .before .before .before .args .status) (c .before .before .before .before .before .before .before .before .before .before .before .before .before .before .before .before .before .before .before .args .mode) (c .before .before .before .before .before .before .before .before .before .before .before .before .before .before .before .before .before .before .before .args .words .now) (c .before .before .before .before .before .before .before .before .before .before .before .before .before .before .before .before .before .before .before .args .halves .now) (c .before .before .before .before .before .before .before .before .before .before .before .before .before .before .before .before .before .before .before .args .bytes .now) (c .before .before .before .before .before .before .before .before .before .before .before .before .before .before .before .before .before .before .before .args .clock .now) (c .before .before .before .before .before .before .before .before .before .before .before .before .before .before .before .before .before .before .before .pre) (omega (arith, c .before .before .before .before .before .before .before .before .before .before .before .before .before .full-bytes .ensures)) (c .before .before .before .before .before .before .before .before .turn-of .ensures)
+
+plain-requires : tie.Need-plain-requires
+plain-requires c κs = search needs
+
+same-length : tie.Need-same-length
+same-length c = search needs
+
+same-length-2 : tie.Need-same-length-2
+same-length-2 c = search needs
+
+same-length-3 : tie.Need-same-length-3
+same-length-3 c = search needs
+
+same-length-4 : tie.Need-same-length-4
+same-length-4 c = search needs
+
+returns : tie.Need-returns
+returns c = done (c .before .before .before .before .before .before .before .before .before .before .before .before .before .before .before .before .before .before .before .before .before .before .before .before .before .before .before .before .before .args .status) (c .before .before .before .before .before .before .before .before .before .before .before .before .before .before .before .before .before .before .before .before .before .before .before .before .before .before .before .before .before .args .mode) (c .before .before .before .before .before .before .before .before .before .before .before .before .before .before .before .before .before .before .before .before .before .before .before .before .before .before .before .before .before .args .words .now) (c .before .before .before .before .before .before .before .before .before .before .before .before .before .before .before .before .before .before .before .before .before .before .before .before .before .before .before .before .before .args .halves .now) (c .before .before .before .before .before .before .before .before .before .before .before .before .before .before .before .before .before .before .before .before .before .before .before .before .before .before .before .before .before .args .bytes .now) (c .before .before .before .before .before .before .before .before .before .before .before .before .before .before .before .before .before .before .before .before .before .before .before .before .before .before .before .before .before .args .clock .now) (c .before .before .before .before .before .before .before .before .before .before .before .before .before .before .before .before .before .before .before .before .before .before .before .before .before .before .before .before .before .pre) (omega (arith, c .before .before .before .before .before .before .before .before .before .before .before .before .before .before .before .before .before .before .before .before .before .before .before .full-bytes .ensures)) (c .before .before .before .before .before .before .before .before .before .before .before .before .before .before .before .before .before .before .turn-of .ensures) _ (c .plain .ensures) (c .before .before .before .before .before .before .before .before .before .carry .ensures)
+
+pub ready-spec : {M : Type 1} → statement M
+ready-spec =
+    tie.close
+    (tie.spec full-bytes-requires element-write-bytes turn-of-requires carry-requires plain-requires same-length same-length-2 same-length-3 same-length-4 returns)

@@ -1,0 +1,2 @@
+-- What the contracts of consumer ready in place cite.
+pub mod Modes
