@@ -27,42 +27,12 @@ use Rattle.parts.specs.Seats.{seats}
 use Rattle.parts.specs.Parts.{at, unackedAt, outboxIn}
 use Rattle.parts.proofs.Seats.{length-seats, seats-of, take-seats}
 use Rattle.link_outbox.specs.Tests.{low, stayer, Bounded}
-use Rattle.link_outbox.specs.Steps.{Drops, Lowered, Shifted, Front}
+use Rattle.link_moves.specs.Moves.{Lowered}
+use Rattle.link_outbox.specs.Steps.{Drops, Shifted, Front}
 use Rattle.link_outbox.proofs.Sounds.{used-at, used-length, total-same, take-total}
 use Rattle.link_outbox.proofs.Sweeps.{Sweeps, dropped}
 
--- ---- elements are moved down
-
-pub lowered-none : (to from : ℕ) (l : List ℕ) → Lowered to from 0 l l
-lowered-none to from l = record { size = refl; moved = λ i k. absurd (omega arith); below = λ i k. refl; above = λ i k. refl }
-
-pub lowered-more : (to from i : ℕ) (l₀ l : List ℕ) → Lowered to from i l₀ l → to ≤ from → from + i < length l₀ → Lowered to from (i + 1) l₀ (set l (to + i) (at l (from + i)))
-lowered-more to from i l₀ l g down room =
-    record {
-      size = length-set l (to + i) v ∙ g .size;
-      moved = λ j k. ⊎-elim (λ (e : j ≡ i). here j e) (λ (e : j < i). others (to + j) (λ x. omega arith) ∙ g .moved j e) (eq-or-lt-of-le (upto j k));
-      below = λ j k. others j (λ e. omega arith) ∙ g .below j k;
-      above = λ j k. others j (λ e. omega arith) ∙ g .above j (omega arith);
-    }
-  where
-    v : ℕ
-    v = at l (from + i)
-
-    upto : (j : ℕ) → j < i + 1 → j ≤ i
-    upto j k = omega arith
-
-    others : (j : ℕ) → (j ≡ to + i → ⊥) → at (set l (to + i) v) j ≡ at l j
-    others j n = getD-set-other l (to + i) j v 0 n
-
-    here : (j : ℕ) → j ≡ i → at (set l (to + i) v) (to + j) ≡ at l₀ (from + j)
-    here j e =
-        ap (λ (x : ℕ). at (set l (to + i) v) (to + x)) e
-        ∙ getD-set-same l (to + i) v 0 (omega (arith, g .size))
-        ∙ g .above (from + i) (omega arith)
-        ∙ ap (λ (x : ℕ). at l₀ (from + x)) (sym e)
-
-pub lowered-all : {to from i n : ℕ} {l l′ : List ℕ} → Lowered to from i l l′ → i ≤ n → n ≤ i → Lowered to from n l l′
-lowered-all {to} {from} {i} {n} {l} {l′} g p q = let e : i ≡ n = omega arith in subst (λ (j : ℕ). Lowered to from j l l′) e g
+-- ---- both sections are moved down
 
 pub shifted : (k n : ℕ) (l m l′ : List ℕ) → k + n ≤ 256 → Lowered 0 k n l m → Lowered 256 (256 + k) n m l′ → Shifted k n l l′
 shifted k n l m l′ few p q =

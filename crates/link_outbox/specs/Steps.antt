@@ -44,13 +44,6 @@ pub record Front (ack k : ℕ) (w h b : List ℕ) : Type 0 where
   pub all : k + total (stayer ack) (usedU (outboxIn w h b)) ≡ at w 1
   pub later : total (stayer ack) (slice k (at w 1) (seats 256 (unackedAt h b))) ≡ total (stayer ack) (usedU (outboxIn w h b))
 
--- n elements are moved down from one index to another
-pub record Lowered (to from n : ℕ) (l l′ : List ℕ) : Type 0 where
-  pub size : length l′ ≡ length l
-  pub moved : (i : ℕ) → i < n → at l′ (to + i) ≡ at l (from + i)
-  pub below : (i : ℕ) → i < to → at l′ i ≡ at l i
-  pub above : (i : ℕ) → to + n ≤ i → at l′ i ≡ at l i
-
 -- both sections, of which n elements are in use after it, move down by k
 pub record Shifted (k n : ℕ) (l l′ : List ℕ) : Type 0 where
   pub front : (i : ℕ) → i < n → at l′ i ≡ at l (k + i)

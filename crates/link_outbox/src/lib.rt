@@ -15,7 +15,7 @@ ghost use Rattle.parts.specs.Parts.{at, flag, outboxIn, unackedAt};
 ghost use Rattle.outbox.specs.View.{usedU, ExactOutbox};
 ghost use Rattle.outbox.specs.Records.{placeU};
 ghost use Rattle.outbox.specs.Steps.{Room, Replays};
-ghost use Rattle.link_outbox.specs.Steps.{Joins, Marks, Frees, Drops, Lowered, Shifted, Front, freed, Sends};
+ghost use Rattle.link_outbox.specs.Steps.{Joins, Marks, Frees, Drops, Shifted, Front, freed, Sends};
 ghost use Rattle.link_outbox.specs.Tests.{fall, falls, Steps, low, stayer, Bounded, Sought};
 use outbox::Place;
 use parts::Bytes;
@@ -456,43 +456,15 @@ fn staying(halves: &Halves, bytes: &Bytes, start: usize, count: usize, ack: u64)
     sum
 }
 
-// Moves the n halves at index from down to index to.
-fn lower_halves(halves: &mut Halves, to: usize, from: usize, n: usize)
-    requires { ⌜ (to ≤ from) × (from + n ≤ 512) ⌝ }
-    ensures { λ _. ⌜ Lowered to from n (now (halves .entry)) (now (halves .exit)) ⌝ }
-{
-    full_halves(halves);
-    let mut i = 0;
-    while i < n {
-        let x = halves[from + i];
-        halves[to + i] = x;
-        i += 1;
-    }
-}
-
-// Moves the n bytes at index from down to index to.
-fn lower_bytes(bytes: &mut Bytes, to: usize, from: usize, n: usize)
-    requires { ⌜ (to ≤ from) × (from + n ≤ 512) ⌝ }
-    ensures { λ _. ⌜ Lowered to from n (now (bytes .entry)) (now (bytes .exit)) ⌝ }
-{
-    full_bytes(bytes);
-    let mut i = 0;
-    while i < n {
-        let x = bytes[from + i];
-        bytes[to + i] = x;
-        i += 1;
-    }
-}
-
 // The n records from index k on move down to index 0.
 fn lower_records(halves: &mut Halves, bytes: &mut Bytes, k: usize, n: usize)
     requires { ⌜ k + n ≤ 256 ⌝ }
     ensures { λ _. ⌜ Shifted k n (now (halves .entry)) (now (halves .exit)) × Shifted k n (now (bytes .entry)) (now (bytes .exit)) ⌝ }
 {
-    lower_halves(halves, 0, k, n);
-    lower_halves(halves, parts::UNACKED_LENS, parts::UNACKED_LENS + k, n);
-    lower_bytes(bytes, 0, k, n);
-    lower_bytes(bytes, parts::UNSENT, parts::UNSENT + k, n);
+    link_moves::lower_halves(halves, 0, k, n);
+    link_moves::lower_halves(halves, parts::UNACKED_LENS, parts::UNACKED_LENS + k, n);
+    link_moves::lower_bytes(bytes, 0, k, n);
+    link_moves::lower_bytes(bytes, parts::UNSENT, parts::UNSENT + k, n);
 }
 
 // The first k messages go: what is left moves down at once.

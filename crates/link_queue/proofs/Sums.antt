@@ -5,7 +5,9 @@ use Prim.Native.Nat.{ℕ, zero, suc, _+_, _-_, _≤_, _<_}
 use native.Mathlib.Omega.{arith}
 use Rattle.stores.proofs.Packs.{total-snoc}
 use Rattle.rules.specs.Lists.{total, itself}
-use Rattle.queue.specs.View.{lenQ, endQ}
+use lib.ListN.{take}
+use Rattle.queue.specs.View.{lenQ, usedQ, endQ}
+use Rattle.queue.proofs.Changes.{start-plain, start-within}
 use Rattle.parts.specs.Seats.{seats}
 use Rattle.parts.specs.Parts.{at, queuedAt, queueIn}
 use Rattle.parts.proofs.Seats.{take-seats, seats-snoc, map-seats}
@@ -42,8 +44,26 @@ bodies-within h n i s l =
     let z : bodies h (i + (n - i)) ≡ bodies h n = ap (bodies h) (omega arith) in
     omega (arith, grows h i (n - i), s .small)
 
-pub end-bodies : (w h b : List ℕ) → at w 4 ≤ 256 → endQ (queueIn w h b) ≡ bodies h (at w 4)
-end-bodies w h b l =
-    ap (total lenQ) (take-seats (at w 4) 256 (queuedAt w h b) l)
-    ∙ total-map lenQ (seats (at w 4) (queuedAt w h b))
-    ∙ ap (total itself) (map-seats lenQ (at w 4) (queuedAt w h b))
+module _ (w h b : List ℕ) where
+  front-bodies : (k : ℕ) → k ≤ 256 → total lenQ (take k (seats 256 (queuedAt w h b))) ≡ bodies h k
+  front-bodies k l =
+      ap (total lenQ) (take-seats k 256 (queuedAt w h b) l)
+      ∙ total-map lenQ (seats k (queuedAt w h b))
+      ∙ ap (total itself) (map-seats lenQ k (queuedAt w h b))
+
+  pub end-bodies : at w 4 ≤ 256 → endQ (queueIn w h b) ≡ bodies h (at w 4)
+  end-bodies l = front-bodies (at w 4) l
+
+  pub start-bodies : (k : ℕ) → k ≤ at w 4 → at w 4 ≤ 256 → total lenQ (take k (usedQ (queueIn w h b))) ≡ bodies h k
+  start-bodies k within few = start-plain (queueIn w h b) k within ∙ front-bodies k (omega arith)
+
+  -- the sum up to any frame is one that `start` makes
+  pub summing : (k : ℕ) → k ≤ at w 4 → at w 4 ≤ 256 → endQ (queueIn w h b) ≤ 32768 → Summing h k
+  summing k within few small =
+      record {
+        few = omega arith;
+        small = omega (arith, start-bodies k within few, start-within (queueIn w h b) k);
+      }
+
+  pub start-before : (k : ℕ) → k ≤ at w 4 → at w 4 ≤ 256 → bodies h k ≤ bodies h (at w 4)
+  start-before k within few = omega (arith, start-bodies k within few, end-bodies few, start-within (queueIn w h b) k)

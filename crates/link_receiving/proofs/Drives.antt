@@ -34,7 +34,8 @@ use Rattle.parts.specs.Parts.{parts, at, queuedAt, queueIn, clockIn, openedOf}
 use Rattle.parts.specs.Driven.{Driven}
 use Rattle.parts.proofs.Seats.{getD-seats}
 use Rattle.parts.proofs.Drives.{changes}
-use Rattle.link_receiving.specs.Steps.{Joins, Joined, Confirms, Confirmed}
+use Rattle.link_queue.specs.Joins.{Joins, Joined}
+use Rattle.link_receiving.specs.Steps.{Confirms, Confirmed}
 use Rattle.link_receiving.specs.Ways.{Data, Now, Later}
 use Rattle.link_receiving.proofs.Calls as Calls
 use Rattle.link_receiving.proofs.Calls.{taken}

@@ -1,22 +1,17 @@
 -- A drain that takes nothing, at the end of a call. Assumes nothing.
-use mathlib.Core.Path.{_≡_, refl, sym, _∙_}
+use mathlib.Core.Path.{_≡_, refl}
 use mathlib.Core.Bool.{Bool, true, false}
 use mathlib.Core.List.{List}
 use Prim.Native.Nat.{ℕ, _+_, _≤_, _<_}
-use lib.ListN.{length, take}
+use lib.ListN.{take}
 use Rattle.rules.specs.declared.HostStatus.{HostStatus}
-use Rattle.rules.specs.Lists.{Bytes, total, packed}
-use Rattle.rules.specs.State as R
-use Rattle.rules.specs.State.{frame-body}
+use Rattle.rules.specs.Lists.{Bytes, total}
 use Rattle.rules.specs.Receiving.{available}
-use Rattle.rules.proofs.Lists.{length-packed}
-use Rattle.rules.proofs.Buffers.{repacked-same}
 use Rattle.events.specs.declared.Stop.the-variants.{No}
 use Rattle.events.specs.Written.{books}
 use Rattle.numbers.specs.declared.Numbers.{Numbers}
 use Rattle.queue.specs.declared.Queue.{Queue}
-use Rattle.queue.specs.View.{lenQ, usedQ, framesOf, endQ, ExactQueue, Repacked}
-use Rattle.queue.proofs.View.{frames-bytes, frames-total}
+use Rattle.queue.specs.View.{lenQ, usedQ}
 use Rattle.peer_session.specs.declared.SessionState.{SessionState}
 use Rattle.delivery.specs.declared.Turn.{Turn}
 use Rattle.delivery.specs.Turns.{Drains}
@@ -28,18 +23,7 @@ use Rattle.draining.specs.Turns.{advanced}
 use Rattle.draining.specs.Ends.{Carrying, Carries}
 use Rattle.draining.proofs.Settled.{settles-none}
 use Rattle.draining.proofs.Carried.{draining, finishing, carries-on}
-
-pub same-queue : (x : Queue) (q : Bytes) → ExactQueue x (length q) → Repacked x q (framesOf x q) x q
-same-queue x q e =
-    record {
-      frames = refl;
-      exact = e;
-      bytes =
-          sym
-          (repacked-same (endQ x) (packed frame-body (framesOf x q)) q (frames-bytes x q e)
-          (length-packed frame-body (framesOf x q) ∙ frames-total x q e));
-      size = refl;
-    }
+use Rattle.link_queue.proofs.Records.{same-queue}
 
 off : (status : HostStatus) (t : Turn) → status .available ≡ false → Available status t false
 unfolding available

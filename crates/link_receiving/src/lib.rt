@@ -10,7 +10,7 @@ ghost use Rattle.delivery.specs.Turns.{frameOf};
 ghost use Rattle.parts.specs.Codes.{answerOf};
 ghost use Rattle.parts.specs.Parts.{parts, at, clockIn};
 ghost use Rattle.parts.specs.Driven.{Driven};
-ghost use Rattle.link_receiving.specs.Steps.{Joins, Joined, Confirms, Confirmed};
+ghost use Rattle.link_receiving.specs.Steps.{Confirms, Confirmed};
 ghost use Rattle.link_receiving.specs.Ways.{Data, Now, Later, Repeated, Reached, Tests, Near, Waits, Tells, Passed, Chosen};
 use parts::Bytes;
 use parts::Halves;
@@ -56,29 +56,6 @@ fn taken(events: usize) -> LinkAnswer
         third: 0,
         events: events,
     }
-}
-
-// A frame goes in after those that are queued, whose bodies end at index end of the store.
-fn join(
-    words: &mut Words,
-    halves: &mut Halves,
-    bytes: &mut Bytes,
-    store: &mut [u8],
-    end: usize,
-    number: u64,
-    kind: u8,
-    body: &[u8],
-)
-    requires { ⌜ Joins (now words) (now halves) (now bytes) (length (now store)) end (length (now body)) ⌝ }
-    ensures { λ _. ⌜ Joined number kind (now (body .entry)) (now (words .entry)) (now (halves .entry)) (now (bytes .entry)) (now (store .entry)) (now (words .exit)) (now (halves .exit)) (now (bytes .exit)) (now (store .exit)) ⌝ }
-{
-    stores::copy_in(store, end, body);
-    let count = words[parts::QUEUED];
-    let n = count as usize;
-    words[parts::QUEUED_NUMBERS + n] = number;
-    words[parts::QUEUED] = count + 1;
-    halves[parts::QUEUED_LENS + n] = body.len() as u32;
-    bytes[parts::QUEUED_KINDS + n] = kind;
 }
 
 // A number above all acks that wait is delivered.
@@ -144,7 +121,7 @@ fn enqueue(
     ensures { λ x. ⌜ Driven (parts (now (words .entry)) (now (halves .entry)) (now (bytes .entry)) (now (clock .entry))) (parts (now (words .exit)) (now (halves .exit)) (now (bytes .exit)) (now (clock .entry))) x (λ s y. Called (gets-data status (frameOf number kind (now (body .entry)))) s (lent (now (list .entry)) (now (delivery .entry)) (now (outbound .entry)) (now (queue .entry))) y (lent (now (list .exit)) (now (delivery .entry)) (now (outbound .entry)) (now (queue .exit)))) ⌝ }
 {
     let c = clock_of(halves, clock);
-    join(words, halves, bytes, queue, end, number, kind, body);
+    link_queue::join(words, halves, bytes, queue, end, number, kind, body);
     let n = events::request(c, list, 0);
     taken(n)
 }

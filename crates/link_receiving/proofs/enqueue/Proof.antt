@@ -10,7 +10,7 @@ use Rattle.link_receiving.proofs.enqueue.Reads as reads
 use Rattle.link_receiving.proofs.enqueue.Lts as lts
 use Rattle.events.proofs.request.Reads as request-reads
 use Rattle.link_receiving.proofs.clock_of.Reads as clock-of-reads
-use Rattle.link_receiving.proofs.join.Reads as join-reads
+use Rattle.link_queue.proofs.join.Reads as join-reads
 use Rattle.link_receiving.proofs.taken.Reads as taken-reads
 
 -- src/lib.rt:148:9

@@ -1,68 +1,56 @@
 use Prim.Native.Nat.{_+_, _-_, _≤_}
 use native.Mathlib.Omega.{arith}
 use lib.ListN.{length}
-use Rattle.link_outbox.specs.Steps.{Lowered}
-use Rattle.link_outbox.proofs.Fronts.{lowered-none, lowered-more, lowered-all}
+use Rattle.link_moves.specs.Moves.{Lowered}
+use Rattle.link_moves.proofs.Moves.{lowered-none, lowered-more, lowered-all}
 use borrow.Author.Needs.{needs}
-use Rattle.link_outbox.proofs.lower_halves.Statement.{statement}
-use Rattle.link_outbox.proofs.lower_halves.Tie as tie
-use Rattle.link_outbox.proofs.lower_halves.Reads as reads
-use Rattle.link_outbox.proofs.lower_halves.Lts as lts
+use Rattle.link_moves.proofs.lower_halves.Statement.{statement}
+use Rattle.link_moves.proofs.lower_halves.Tie as tie
+use Rattle.link_moves.proofs.lower_halves.Reads as reads
+use Rattle.link_moves.proofs.lower_halves.Lts as lts
 use Rattle.parts.proofs.full_halves.Reads as full-halves-reads
 
 abbrev Inv-loop : tie.InvT-loop
-Inv-loop halves₀ to from n i₀ halves i = (i ≤ n) × (to ≤ from) × (from + n ≤ 512) × (512 ≤ length halves₀) × Lowered to from i halves₀ halves
+Inv-loop halves₀ to from n i₀ halves i = (i ≤ n) × (to ≤ from) × (from + n ≤ 772) × (772 ≤ length halves₀) × Lowered to from i halves₀ halves
 
 abbrev μ-loop : tie.MeasureT-loop
 μ-loop halves₀ to from n i₀ halves i = n - i
 
--- src/lib.rt:464:5
 full-halves-requires : tie.Need-full-halves-requires Inv-loop μ-loop
 full-halves-requires c κs = search needs
 
--- src/lib.rt:466:5
 loop-holds : tie.Need-loop-holds Inv-loop μ-loop
 loop-holds c = (omega arith, omega arith, omega arith, omega arith, lowered-none _ _ _)
 
--- src/lib.rt:467:24
 add-x : tie.Need-add-x Inv-loop μ-loop
 add-x c = search needs
 
--- src/lib.rt:467:17
 mul-x : tie.Need-mul-x Inv-loop μ-loop
 mul-x c = search needs
 
--- src/lib.rt:467:17
 element-copy-out-x : tie.Need-element-copy-out-x Inv-loop μ-loop
 element-copy-out-x c = search needs
 
--- src/lib.rt:468:16
 add-halves : tie.Need-add-halves Inv-loop μ-loop
 add-halves c = search needs
 
--- src/lib.rt:468:9
 mul-halves : tie.Need-mul-halves Inv-loop μ-loop
 mul-halves c = search needs
 
--- src/lib.rt:468:9
 element-write-halves : tie.Need-element-write-halves Inv-loop μ-loop
 element-write-halves c = search needs
 
--- src/lib.rt:469:9
 add-i : tie.Need-add-i Inv-loop μ-loop
 add-i c = search needs
 
--- src/lib.rt:466:5
 loop-less : tie.Need-loop-less Inv-loop μ-loop
 loop-less c = search needs
 
--- src/lib.rt:466:5
 loop-again : tie.Need-loop-again Inv-loop μ-loop
 loop-again c =
     let l = c .before .before .loop in
     (omega arith, l .inv .1, l .inv .2, l .inv .3, lowered-more _ _ _ _ _ (l .inv .4) (l .inv .1) (omega arith))
 
--- src/lib.rt:460:1
 returns : tie.Need-returns Inv-loop μ-loop
 returns c = lowered-all (c .before .loop .inv .4) (c .before .loop .inv .0) (c .loop-test .left)
 

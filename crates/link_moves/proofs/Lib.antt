@@ -1,0 +1,2 @@
+-- The laws of moves within a part, one for each direction.
+pub mod Moves

@@ -1,0 +1,2 @@
+-- What the contracts of moves within a part cite.
+pub mod Moves
