@@ -42,7 +42,7 @@ fn setup_of(code: u8, terms: Terms) -> Setup
     Setup::None
 }
 
-fn mode_of(code: u8) -> ReceiveMode
+pub fn mode_of(code: u8) -> ReceiveMode
     ensures { λ r. ⌜ r ≡ mode-of code ⌝ }
 {
     if code == 0 {

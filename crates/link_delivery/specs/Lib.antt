@@ -1,0 +1,2 @@
+-- What the contracts of the drain in place cite: `Drains` the drain, and what its steps do.
+pub mod Drains
