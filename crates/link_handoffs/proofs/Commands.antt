@@ -1,9 +1,9 @@
 -- A command on the parts of a session: its tests, and the call. Assumes nothing.
 use Prim.Native.Nat.{ℕ, _≤_, _<_}
-use mathlib.Core.Path.{_≡_, refl, sym, ap, _∙_, subst}
+use mathlib.Core.Path.{_≡_, refl, sym, _∙_, subst}
 use mathlib.Core.Bool.{Bool, true, false, true≢false}
 use mathlib.Core.List.{List}
-use mathlib.Core.Option.{Option, none, some}
+use mathlib.Core.Option.{Option}
 use native.Mathlib.Omega.{arith}
 use lib.Ieee.{Float}
 use lib.ListN.{length}
@@ -22,7 +22,7 @@ use Rattle.session.specs.Promise.{CalledWithOutbound}
 use Rattle.session.proofs.Lengths.{not-taken}
 use Rattle.setup.proofs.Lending as L
 use Rattle.handoffs.specs.Commands.{commandOf, commanding, Holding}
-use Rattle.handoffs.proofs.Commands.{plain, size-is, spent, too-long, holding, short-body, carries-out}
+use Rattle.handoffs.proofs.Commands.{plain, size-is, spent, too-long, holding, carries-out}
 use Rattle.parts.specs.declared.LinkAnswer.{LinkAnswer}
 use Rattle.parts.specs.Codes.{answerOf}
 use Rattle.parts.specs.Parts.{Parts, parts, at, flag, outboxIn, openedOf}

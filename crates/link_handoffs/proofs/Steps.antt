@@ -6,7 +6,7 @@ use mathlib.Core.List.{List}
 use mathlib.Core.Option.{none, some}
 use native.Mathlib.Omega.{arith}
 use lib.Ieee.{Float}
-use lib.ListN.{length, length-take, length-drop}
+use lib.ListN.{length}
 use Rattle.rules.specs.declared.Answer.the-variants.{Done, Refused}
 use Rattle.rules.specs.declared.Clock.{Clock}
 use Rattle.rules.specs.declared.Refusal.{Refusal}
@@ -21,12 +21,11 @@ use Rattle.events.specs.declared.Stop.the-variants.{No, By}
 use Rattle.events.specs.Written.{Listed, asked}
 use Rattle.outbox.specs.View.{ExactOutbox}
 use Rattle.peer_session.specs.declared.SessionState.{SessionState}
-use Rattle.peer_session.specs.declared.TerminalHandoff.{TerminalHandoff}
-use Rattle.peer_session.specs.Sound.{soundOf, Full, Checked}
+use Rattle.peer_session.specs.Sound.{soundOf, Checked}
 use Rattle.session.specs.declared.Returned.{Returned}
 use Rattle.session.specs.Promise.{Turned}
 use Rattle.setup.specs.declared.Joined.{Joined}
-use Rattle.setup.specs.Steps.{Joins, Asks, staged, Comes}
+use Rattle.setup.specs.Steps.{Asks, staged, Comes}
 use Rattle.handoffs.specs.Commands.{startingIn, commanding, HandsOver}
 use Rattle.handoffs.proofs.Steps as Plain
 use Rattle.handoffs.proofs.Steps.{handing}
@@ -34,7 +33,7 @@ use Rattle.restores.specs.declared.Handoff.{Handoff}
 use Rattle.parts.specs.declared.LinkAnswer.{LinkAnswer}
 use Rattle.parts.specs.Codes.{answerOf, stageOf}
 use Rattle.parts.specs.Parts.{Parts, parts, at, flag, outboxIn, clockIn, codesIn, handoffIn, openedOf}
-use Rattle.parts.proofs.Fields.{Agree, outbox-same, queue-same, numbers-same, clock-same, codes-same, policy-same, reject-same}
+use Rattle.parts.proofs.Fields.{Agree, outbox-same, queue-same, numbers-same, codes-same, policy-same, reject-same}
 use Rattle.parts.proofs.Opened.{opened-as}
 use Rattle.parts.proofs.After.{agree-all}
 use Rattle.link_sound.proofs.Parts.{usable}

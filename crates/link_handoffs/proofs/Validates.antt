@@ -1,6 +1,6 @@
 -- A command that meets a handoff, on the parts of a session. Assumes nothing.
-use Prim.Native.Nat.{ℕ, _+_, _≤_, _<_}
-use mathlib.Core.Path.{_≡_, refl, sym, ap, _∙_}
+use Prim.Native.Nat.{ℕ}
+use mathlib.Core.Path.{_≡_, sym, ap, _∙_}
 use mathlib.Core.Bool.{Bool, true, false}
 use mathlib.Core.List.{List}
 use mathlib.Core.Option.{some}
@@ -8,17 +8,16 @@ use native.Mathlib.Omega.{arith}
 use lib.Dec.{leb}
 use lib.Ieee.{Float}
 use lib.ListN.{length, take, drop}
-use lib.Seq.{take-take}
 use Rattle.rules.specs.declared.Answer.the-variants.{Refused}
 use Rattle.rules.specs.declared.Refusal.the-variants.{HandoffPending, CommandDiffers, HandoffInconsistent, HandoffNotHeld}
 use Rattle.rules.specs.Lists.{Bytes, any, same}
 use Rattle.rules.specs.Handoff.{Command, numbered-to}
+use Rattle.outbox.specs.declared.Unacked.{Unacked}
 use Rattle.outbox.specs.declared.Place.{Place}
 use Rattle.outbox.specs.declared.Place.the-variants.{At, Nowhere}
 use Rattle.outbox.specs.View.{blankU, usedU, unackedOf}
 use Rattle.outbox.specs.Records.{placeU}
 use Rattle.outbox.specs.Sound.{soundOutbox}
-use Rattle.session.specs.declared.Returned.{Returned}
 use Rattle.handoffs.specs.Commands.{commanding, carriesBody, Holding, validating}
 use Rattle.handoffs.proofs.Unacked.{to-none, to-some, carries-here, carries-none}
 use Rattle.handoffs.proofs.Validates as Plain
@@ -39,7 +38,7 @@ module _ (w h b : List ℕ) (s : Bytes) (number : ℕ) where
 
   pub first-unacked : (at w 1 ≡ 0 → ⊥) → soundOutbox (outboxIn w h b) ≡ true → {x : ℕ} → x ≡ at h 0 → leb x number ≡ any (numbered-to number) (unackedOf (outboxIn w h b) s)
   first-unacked n sound {x} e =
-      ap (λ (i : ℕ). leb i number) (e ∙ sym (ap (λ (u : _). u .number) (getD-seats 256 (unackedAt h b) 0 blankU (omega arith))))
+      ap (λ (i : ℕ). leb i number) (e ∙ sym (ap (λ (u : Unacked). u .number) (getD-seats 256 (unackedAt h b) 0 blankU (omega arith))))
       ∙ to-some number (outboxIn w h b) s sound (length-seats 256 (unackedAt h b)) n
 
 module _ (w h b : List ℕ) (o : Bytes) (k : HoldingIn w h b (length o)) {p : Place} (is : (x : List ℕ) → p ≡ placeU (at w 9) 0 (usedU (outboxIn w h x)))
