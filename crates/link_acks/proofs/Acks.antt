@@ -1,7 +1,7 @@
 -- An ack on the parts of a session, done in place. Assumes nothing.
 use Prim.Native.Nat.{ℕ, _+_, _≤_, _<_}
 use mathlib.Core.Path.{_≡_, refl, sym, ap, _∙_, subst}
-use mathlib.Core.Bool.{Bool, true, false, not, _&&_, _||_, true≢false}
+use mathlib.Core.Bool.{Bool, true, false, _&&_, _||_}
 use mathlib.Core.List.{List}
 use native.Mathlib.Omega.{arith}
 use lib.Ieee.{Float}
@@ -11,9 +11,10 @@ use lib.Dec.{leb, eqb}
 use borrow.Author.Tests.{eq-eqb, ne-eqb}
 use Rattle.rules.specs.declared.Answer.the-variants.{Flag, Refused}
 use Rattle.rules.specs.declared.Refusal.{Refusal}
-use Rattle.rules.specs.declared.Refusal.the-variants.{ShortBuffer, BadRecord, GenerationsExhausted}
+use Rattle.rules.specs.declared.ReceiveMode.the-variants.{Raw, Proposal, Channel, Rejection, Retiring}
+use Rattle.rules.specs.declared.Refusal.the-variants.{ShortBuffer, BadRecord, AckOutOfRange, GenerationsExhausted}
 use Rattle.rules.specs.declared.Clock.{Clock}
-use Rattle.rules.specs.Lists.{Bytes, if_then_else_, kept}
+use Rattle.rules.specs.Lists.{Bytes, if_then_else_, kept, empty}
 use Rattle.rules.specs.State.{is-raw}
 use Rattle.rules.specs.Acks.{survives}
 use Rattle.rules.specs.Calls.{gets-ack}
@@ -22,41 +23,45 @@ use Rattle.events.specs.declared.Stop.the-variants.{No, By}
 use Rattle.events.specs.Written.{Listed, asked}
 use Rattle.outbox.specs.View.{unackedOf, ExactOutbox}
 use Rattle.peer_session.specs.declared.Stage.{Stage}
-use Rattle.peer_session.specs.declared.SessionState.{SessionState}
 use Rattle.peer_session.specs.declared.TerminalHandoff.{TerminalHandoff}
 use Rattle.peer_session.specs.Sound.{soundOf, Full}
-use Rattle.session.specs.declared.Returned.{Returned}
 use Rattle.session.specs.Promise.{CalledWithStores}
-use Rattle.session.proofs.Queries.{complete-no}
+use Rattle.session.proofs.Queries.{empty-unacked}
 use Rattle.acks.specs.Steps.{clockAfter, notices}
 use Rattle.acks.proofs.Steps.{acknowledges, acked-is}
 use Rattle.acks.proofs.Acks as A
 use Rattle.parts.specs.declared.StageCodes.{StageCodes}
 use Rattle.parts.specs.declared.LinkAnswer.{LinkAnswer}
-use Rattle.parts.specs.Codes.{good-codes, good-stage, bad-stage, stageOf, answerOf}
-use Rattle.parts.specs.Parts.{Parts, parts, at, flag, section, outboxIn, waitingIn, retryIn, clockIn, codesIn, handoffIn, openedOf}
+use Rattle.parts.specs.Codes.{good-codes, stageOf, answerOf}
+use Rattle.parts.specs.Parts.{Parts, parts, at, flag, section, unackedAt, outboxIn, waitingIn, retryIn, clockIn, codesIn, handoffIn, openedOf}
 use Rattle.parts.specs.Frames.{Past}
 use Rattle.parts.specs.Driven.{Driven}
+use Rattle.parts.proofs.Seats.{length-seats}
 use Rattle.parts.proofs.Fields.{Agree, agree-past, agree-set, agree-then, outbox-same, numbers-same, section-same}
 use Rattle.parts.proofs.After.{Kept, other, after, agree-all}
 use Rattle.parts.proofs.Drives.{changes, refuses}
 use Rattle.link_outbox.specs.Steps.{Drops}
 use Rattle.link_sound.proofs.Parts.{Usable, usable}
-use Rattle.link_acks.specs.Acks.{AckReady, AckTurns, AckFound, Plain, raisedIf}
+use Rattle.link_codes.proofs.Enums.{stage-good}
+use Rattle.link_draining.specs.Steps.{Failing}
+use Rattle.link_acks.specs.Acks.{AckReady, AckTurns, AckFound, outside, BeyondIn, raisedIf}
 use Rattle.link_acks.proofs.Lengths.{bytes-long}
 
--- ---- what the codes say, good ones or not
+-- ---- what good codes say
 
-either : (P : Stage → Type 0) (c : Bool) (x y : Stage) → P x → P y → P (if c then x else y)
-either P true x y hx hy = hx
-either P false x y hx hy = hy
+raw-if : (a b c d : Bool) → a ≡ is-raw (if a then Raw else if b then Proposal else if c then Channel else if d then Rejection else Retiring)
+raw-if true b c d = refl
+raw-if false true c d = refl
+raw-if false false true d = refl
+raw-if false false false true = refl
+raw-if false false false false = refl
 
-module _ (g : StageCodes) where
-  raw-code : g .mode ≡ 0 → true ≡ is-raw (stageOf g .mode)
-  raw-code e = either (λ (s : Stage). true ≡ is-raw (s .mode)) (good-codes g) (good-stage g) (bad-stage g) (rw (eq-eqb (g .mode) 0 e)) refl
+module _ (g : StageCodes) (good : good-codes g ≡ true) where
+  disposition-is : g .disposition ≡ stageOf g .disposition
+  disposition-is = ap (λ (s : Stage). s .disposition) (stage-good g good refl refl)
 
-  other-disposition : (g .disposition ≡ 4 → ⊥) → stageOf g .disposition ≡ 4 → ⊥
-  other-disposition h = either (λ (s : Stage). s .disposition ≡ 4 → ⊥) (good-codes g) (good-stage g) (bad-stage g) h (λ e. omega (arith, e))
+  raw-is : eqb (g .mode) 0 ≡ is-raw (stageOf g .mode)
+  raw-is = raw-if (eqb (g .mode) 0) (eqb (g .mode) 1) (eqb (g .mode) 2) (eqb (g .mode) 3) ∙ ap (λ (s : Stage). is-raw (s .mode)) (stage-good g good refl refl)
 
 -- ---- small steps
 
@@ -67,8 +72,9 @@ module _ (a b g : ℕ) where
   pub raised-one : (a ≡ b → ⊥) → g + 1 ≡ raisedIf (eqb a b) g
   raised-one e = rw (ne-eqb a b e)
 
-pub not-four : (x : ℕ) → not (eqb x 4) ≡ true → x ≡ 4 → ⊥
-not-four x e f = true≢false (sym (rw (eq-eqb x 4 f) at e))
+-- whether a rejection is complete
+pub complete-left : (d : ℕ) (x : Bool) → d ≡ 4 → x ≡ (eqb d 4 && x)
+complete-left d x e = rw (eq-eqb d 4 e)
 
 -- ---- what is left
 
@@ -171,31 +177,39 @@ module _ (w h b : List ℕ) (t : Float) (l : List ℕ) (o : Bytes) (number : ℕ
         e
         ∙ clock-dated w h b t (ready .halves) (used .words) (bytes-long w h b t (ready .full)) w′ h′ b′ k (d .words) (d .halves) (d .bytes) g f
 
-    pub went : Plain w b number → {c : Clock} {l₁ l₂ : List ℕ} {n₁ n : ℕ} → c ≡ clockIn (set h′ 768 g) t → Listed (asked c) l 0 l₁ n₁
-        → Listed (notices number false true) l₁ n₁ l₂ n → {y : LinkAnswer} → y ≡ answerOf (Flag true) n → (q : Bytes) → 32768 ≤ length q
-        → Driven (parts w h b t) (parts w′ (set h′ 768 g) (set b′ 774 f) t) y (λ s r. CalledWithStores (gets-ack number) s l o q r l₂ o′ q)
+    -- a rejection is complete where no message is left
+    completes : (x : Bytes) → (eqb (at b 768) 4 && eqb (at w′ 1) 0) ≡ (eqb (stageOf (codesIn h b) .disposition) 4 && empty (unackedOf (outboxIn w′ h′ b′) x))
+    completes x =
+        ap (λ (i : ℕ). eqb i 4 && eqb (at w′ 1) 0) (disposition-is (codesIn h b) (used .codes))
+        ∙ ap (λ (z : Bool). eqb (stageOf (codesIn h b) .disposition) 4 && z) (sym (empty-unacked (outboxIn w′ h′ b′) x (length-seats 256 (unackedAt h′ b′))))
+
+    pub went : outside number (at w 0) ≡ false → {c : Clock} {l₁ l₂ : List ℕ} {n₁ n : ℕ} → c ≡ clockIn (set h′ 768 g) t → Listed (asked c) l 0 l₁ n₁ → {x : Bool}
+        → x ≡ (eqb (at b 768) 4 && eqb (at w′ 1) 0) → Listed (notices number x (eqb (at b 771) 0)) l₁ n₁ l₂ n → {y : LinkAnswer} → y ≡ answerOf (Flag true) n → (q : Bytes)
+        → 32768 ≤ length q → Driven (parts w h b t) (parts w′ (set h′ 768 g) (set b′ 774 f) t) y (λ s r. CalledWithStores (gets-ack number) s l o q r l₂ o′ q)
     unfolding openedOf
-    went plain {c} {l₁} {l₂} {n₁} {n} ec li lj e q lq =
+    went within {c} {l₁} {l₂} {n₁} {n} ec li {x} ex lj e q lq =
         changes (parts w h b t) (ready .sound) (parts w′ (set h′ 768 g) (set b′ 774 f) t) _
         (ack-leaves w h b t (ready .halves) (used .words) (bytes-long w h b t (ready .full)) w′ h′ b′ k (d .words) (d .halves) (d .bytes) g f) (Flag true) n e
-        (λ v. A.goes number (openedOf (parts w h b t)) l o q v (ready .list) (ready .outbound) lq (ready .sound) (ready .full) (ready .low)
-        (A.in-range number (at w 0) (plain .one) (omega (arith, plain .next)))
+        (λ v. A.goes number (openedOf (parts w h b t)) l o q v (ready .list) (ready .outbound) lq (ready .sound) (ready .full) (ready .low) within
         (acked-is number (openedOf (parts w h b t)) l o _ o′
         (acknowledges number (openedOf (parts w h b t)) o (outboxIn w′ h′ b′) o′ _ (flag f) messages-exact (d .left)
         (ap (λ (i : ℕ). record { «last_replay_at» = t; generation = i; released = at h 769; persisted = at h 770 }) raised
         ∙ clock-raised (eqb (at w′ 1) (at w 1)) (clockIn h t)) flagged)
-        (subst (λ (x : Clock). Listed (asked x) l 0 l₁ n₁) (dates ec) li)
-        (λ x y. complete-no (stageOf (codesIn h b) .disposition) _ (other-disposition (codesIn h b) (plain .disposition)))
-        (raw-code (codesIn h b) (plain .raw)) lj))
+        (subst (λ (z : Clock). Listed (asked z) l 0 l₁ n₁) (dates ec) li)
+        (λ i j. ex ∙ completes i)
+        (raw-is (codesIn h b) (used .codes)) lj))
 
--- ---- an ack that is not: what the driver's call leaves is stored
+  -- ---- an ack out of range
 
-pub drives : (p : Parts) {n m : ℕ} (l : List ℕ) (o q : Bytes) (number : ℕ) → AckReady p n m → {s : SessionState} → s ≡ openedOf p → (r : Returned) {l′ : List ℕ} {o′ q′ : Bytes}
-    → CalledWithStores (gets-ack number) s l o q r l′ o′ q′ → (p′ : Parts) → openedOf p′ ≡ r .session → {y : LinkAnswer} → y ≡ answerOf (r .answer) (r .events)
-    → Driven p p′ y (λ s r. CalledWithStores (gets-ack number) s l o q r l′ o′ q′)
-drives p l o q number ready {s} opens r {l′} {o′} {q′} called p′ stored e =
-    changes p (ready .sound) p′ (r .session) stored (r .answer) (r .events) e
-    (subst (λ (x : SessionState). CalledWithStores (gets-ack number) x l o q r l′ o′ q′) opens called)
+  pub failing : (q : Bytes) → 32768 ≤ length q → Failing w h b 0 (length l) (length q)
+  failing q lq = record { queued = used .queued q lq; room = omega (arith, ready .list); codes = used .codes }
+
+  pub broke : outside number (at w 0) ≡ true → (q : Bytes) → 32768 ≤ length q → {p′ : Parts} {y : LinkAnswer} {l′ : List ℕ} {q′ : Bytes}
+      → BeyondIn (parts w h b t) l q y p′ l′ q′ → Driven (parts w h b t) p′ y (λ s r. CalledWithStores (gets-ack number) s l o q r l′ o q′)
+  unfolding openedOf
+  broke out q lq {p′} g =
+      changes (parts w h b t) (ready .sound) p′ (openedOf p′) refl (Refused AckOutOfRange) (g .events) (g .answers)
+      (λ v. A.fails number (openedOf (parts w h b t)) l o q v (ready .list) (ready .outbound) lq (ready .sound) (ready .full) (ready .low) out (g .breaks))
 
 -- ---- the tests
 

@@ -1,11 +1,14 @@
 -- The steps of an ack on the parts of a session. Assumes nothing.
-use Prim.Native.Nat.{ℕ, _+_, _≤_, _<_}
+use Prim.Native.Nat.{ℕ, _+_, _-_, _≤_, _<_}
 use mathlib.Core.Path.{_≡_}
-use mathlib.Core.Bool.{Bool, true, false}
+use mathlib.Core.Bool.{Bool, true, false, _||_}
 use mathlib.Core.List.{List}
+use lib.Dec.{ltb}
 use lib.Ieee.{Float}
 use lib.ListN.{length}
+use Rattle.rules.specs.declared.Answer.the-variants.{Refused}
 use Rattle.rules.specs.declared.Refusal.{Refusal}
+use Rattle.rules.specs.declared.Refusal.the-variants.{AckOutOfRange}
 use Rattle.rules.specs.Lists.{Bytes}
 use Rattle.rules.specs.Calls.{gets-ack}
 use Rattle.events.specs.declared.Stop.{Stop}
@@ -13,6 +16,9 @@ use Rattle.events.specs.declared.Stop.the-variants.{No, By}
 use Rattle.peer_session.specs.Sound.{soundOf, Full}
 use Rattle.session.specs.declared.Returned.{Returned}
 use Rattle.session.specs.Promise.{CalledWithStores, Turned}
+use Rattle.acks.specs.Steps.{OutOfRange}
+use Rattle.parts.specs.declared.LinkAnswer.{LinkAnswer}
+use Rattle.parts.specs.Codes.{answerOf}
 use Rattle.parts.specs.Parts.{Parts, parts, at, openedOf}
 
 -- ---- the tests in their order: the lengths of list and stores, the session, the generation
@@ -36,13 +42,17 @@ AckFound p n m k (By x) = AckTurns p n m k x
 abbrev pub AckEnters : List ℕ → List ℕ → List ℕ → ℕ → ℕ → ℕ → Stop → Type 0
 AckEnters w h b n m k r = (t : Float) → AckFound (parts w h b t) n m k r
 
--- ---- an ack that is done in place: in range, in Raw mode, and no rejection waits for it
+-- ---- an ack of no message that was sent, by the next message's number
 
-pub record Plain (w b : List ℕ) (number : ℕ) : Type 0 where
-  pub one : 1 ≤ number
-  pub next : number < at w 0
-  pub raw : at b 771 ≡ 0
-  pub disposition : at b 768 ≡ 4 → ⊥
+abbrev pub outside : ℕ → ℕ → Bool
+outside number next = ltb number 1 || ltb (next - 1) number
+
+pub record BeyondIn (p : Parts) (l : List ℕ) (q : Bytes) (x : LinkAnswer) (p′ : Parts) (l′ : List ℕ) (q′ : Bytes) : Type 0 where
+  pub events : ℕ
+  pub breaks : OutOfRange (openedOf p) l q (record { session = openedOf p′; answer = Refused AckOutOfRange; events = events }) l′ q′
+  pub answers : x ≡ answerOf (Refused AckOutOfRange) events
+
+-- ---- one of a message that was
 
 -- the generation, by whether as many messages are left as there were
 abbrev pub raisedIf : Bool → ℕ → ℕ

@@ -8,11 +8,12 @@ ghost use Rattle.rules.specs.Lists.{Bytes};
 ghost use Rattle.rules.specs.Calls.{reports, gets-ack, gets-keepalive};
 ghost use Rattle.session.specs.Promise.{CalledWithList, CalledWithStores, ToldWithList};
 ghost use Rattle.acks.specs.Reports.{fullOf, MayRetry};
-ghost use Rattle.parts.specs.Parts.{parts, flag, retryIn};
+ghost use Rattle.parts.specs.Parts.{parts, at, flag, retryIn};
 ghost use Rattle.parts.specs.Driven.{Driven, DrivenTold};
 ghost use Rattle.link_numbers.specs.Sets.{Rising, Set};
+ghost use Rattle.link_draining.specs.Steps.{Failing};
 ghost use Rattle.link_acks.specs.Reports.{Enters, Fit, Reported, AckReported};
-ghost use Rattle.link_acks.specs.Acks.{AckReady, AckEnters, Plain, raisedIf};
+ghost use Rattle.link_acks.specs.Acks.{AckReady, AckEnters, outside, BeyondIn, raisedIf};
 use events::Stop;
 use parts::Bytes;
 use parts::Halves;
@@ -20,6 +21,7 @@ use parts::LinkAnswer;
 use parts::Words;
 use parts::full_halves;
 use peer_session::SessionState;
+use rules::Answer;
 use rules::Refusal;
 
 // ---- a report of a send
@@ -190,20 +192,17 @@ fn ack_enters(
     Stop::No
 }
 
-// Whether an ack is in range, in Raw mode, and no rejection waits for it: such a one is done in place.
-fn plain_ack(words: &Words, bytes: &Bytes, number: u64) -> bool
-    ensures { λ r. ⌜ (r ≡ true → Plain (now (words .entry)) (now (bytes .entry)) number) ⌝ }
+// Whether an ack is of no message that was sent.
+fn out_of_range(next: u64, number: u64) -> bool
+    ensures { λ r. ⌜ r ≡ outside number next ⌝ }
 {
     if number < 1 {
-        return false;
+        return true;
     }
-    if words[parts::NEXT] <= number {
-        return false;
+    if next <= number {
+        return true;
     }
-    if bytes[parts::MODE] != 0 {
-        return false;
-    }
-    bytes[parts::DISPOSITION] != 4
+    false
 }
 
 // The generation is raised where a message went.
@@ -227,7 +226,17 @@ fn handoff_flag(before: u8, sent: u8, handoff: u64, number: u64) -> u8
     0
 }
 
-// The messages up to the ack go, in place.
+// Whether a rejection is complete, by how many messages are left.
+fn complete(disposition: u8, left: u64) -> bool
+    ensures { λ r. ⌜ r ≡ (eqb disposition 4 && eqb left 0) ⌝ }
+{
+    if disposition == 4 {
+        return left == 0;
+    }
+    false
+}
+
+// The messages up to the ack go.
 fn acknowledged(
     words: &mut Words,
     halves: &mut Halves,
@@ -237,11 +246,13 @@ fn acknowledged(
     outbound: &mut [u8],
     number: u64,
 ) -> LinkAnswer
-    requires { ⌜ AckReady (parts (now words) (now halves) (now bytes) (now clock)) (length (now list)) (length (now outbound)) × Plain (now words) (now bytes) number ⌝ }
+    requires { ⌜ AckReady (parts (now words) (now halves) (now bytes) (now clock)) (length (now list)) (length (now outbound)) × (outside number (at (now words) 0) ≡ false) ⌝ }
     ensures { λ x. ⌜ ((q : Bytes) → 32768 ≤ length q → Driven (parts (now (words .entry)) (now (halves .entry)) (now (bytes .entry)) (now (clock .entry))) (parts (now (words .exit)) (now (halves .exit)) (now (bytes .exit)) (now (clock .entry))) x (λ s y. CalledWithStores (gets-ack number) s (now (list .entry)) (now (outbound .entry)) q y (now (list .exit)) (now (outbound .exit)) q)) ⌝ }
 {
     let before = words[parts::UNACKED];
     let generation = halves[parts::GENERATION];
+    let disposition = bytes[parts::DISPOSITION];
+    let raw = bytes[parts::MODE] == 0;
     let flag = handoff_flag(
         bytes[parts::HANDOFF_ACKNOWLEDGED],
         bytes[parts::HANDOFF_SENT],
@@ -249,34 +260,39 @@ fn acknowledged(
         number,
     );
     link_outbox::acknowledge(words, halves, bytes, outbound, number);
+    let left = words[parts::UNACKED];
     bytes[parts::HANDOFF_ACKNOWLEDGED] = flag;
-    halves[parts::GENERATION] = raised(generation, before, words[parts::UNACKED]);
+    halves[parts::GENERATION] = raised(generation, before, left);
     let k = link_codes::reading::clock_in(halves, clock);
     let n = events::request(k, list, 0);
-    let m = acks::notify_acknowledged(false, true, list, n, number);
+    let m = acks::notify_acknowledged(complete(disposition, left), raw, list, n, number);
     link_codes::plain(2, 1, m)
 }
 
-// Any other ack: the driver's call, and what it leaves is stored.
-fn any_ack(
+// An ack out of range: nothing is acknowledged, the queue is emptied, and code 7 is listed.
+fn beyond(
     words: &mut Words,
-    halves: &mut Halves,
+    halves: &Halves,
     bytes: &mut Bytes,
-    clock: &mut f64,
+    clock: &f64,
     list: &mut [u64],
-    outbound: &mut [u8],
     queue: &mut [u8],
-    number: u64,
 ) -> LinkAnswer
-    requires { ⌜ AckReady (parts (now words) (now halves) (now bytes) (now clock)) (length (now list)) (length (now outbound)) ⌝ }
-    ensures { λ x. ⌜ Driven (parts (now (words .entry)) (now (halves .entry)) (now (bytes .entry)) (now (clock .entry))) (parts (now (words .exit)) (now (halves .exit)) (now (bytes .exit)) (now (clock .exit))) x (λ s y. CalledWithStores (gets-ack number) s (now (list .entry)) (now (outbound .entry)) (now (queue .entry)) y (now (list .exit)) (now (outbound .exit)) (now (queue .exit))) ⌝ }
+    requires { ⌜ Failing (now words) (now halves) (now bytes) 0 (length (now list)) (length (now queue)) ⌝ }
+    ensures { λ x. ⌜ BeyondIn (parts (now (words .entry)) (now (halves .entry)) (now (bytes .entry)) (now (clock .entry))) (now (list .entry)) (now (queue .entry)) x (parts (now (words .exit)) (now (halves .entry)) (now (bytes .exit)) (now (clock .entry))) (now (list .exit)) (now (queue .exit)) ⌝ }
 {
-    let s = link_codes::opened(words, halves, bytes, clock);
-    let r = acks::receive_ack(s, list, outbound, queue, number);
-    let left = r.session;
-    link_codes::store(words, halves, bytes, clock, left);
-    let a = r.answer;
-    link_codes::answer_of(a, r.events)
+    let e = link_draining::fail(
+        words,
+        halves,
+        bytes,
+        clock,
+        list,
+        0,
+        queue,
+        Refusal::AckOutOfRange,
+    );
+    let a = Answer::Refused(Refusal::AckOutOfRange);
+    link_codes::answer_of(a, e.events)
 }
 
 // The messages up to a number go, except those pending or unsent.
@@ -284,13 +300,13 @@ pub fn ack(
     words: &mut Words,
     halves: &mut Halves,
     bytes: &mut Bytes,
-    clock: &mut f64,
+    clock: &f64,
     list: &mut [u64],
     outbound: &mut [u8],
     queue: &mut [u8],
     number: u64,
 ) -> LinkAnswer
-    ensures { λ x. ⌜ Driven (parts (now (words .entry)) (now (halves .entry)) (now (bytes .entry)) (now (clock .entry))) (parts (now (words .exit)) (now (halves .exit)) (now (bytes .exit)) (now (clock .exit))) x (λ s y. CalledWithStores (gets-ack number) s (now (list .entry)) (now (outbound .entry)) (now (queue .entry)) y (now (list .exit)) (now (outbound .exit)) (now (queue .exit))) ⌝ }
+    ensures { λ x. ⌜ Driven (parts (now (words .entry)) (now (halves .entry)) (now (bytes .entry)) (now (clock .entry))) (parts (now (words .exit)) (now (halves .exit)) (now (bytes .exit)) (now (clock .entry))) x (λ s y. CalledWithStores (gets-ack number) s (now (list .entry)) (now (outbound .entry)) (now (queue .entry)) y (now (list .exit)) (now (outbound .exit)) (now (queue .exit))) ⌝ }
 {
     let stop = ack_enters(
         words,
@@ -303,10 +319,10 @@ pub fn ack(
     match stop {
         Stop::By(x) => link_codes::refusal(x),
         Stop::No => {
-            if plain_ack(words, bytes, number) {
-                return acknowledged(words, halves, bytes, clock, list, outbound, number);
+            if out_of_range(words[parts::NEXT], number) {
+                return beyond(words, halves, bytes, clock, list, queue);
             }
-            any_ack(words, halves, bytes, clock, list, outbound, queue, number)
+            acknowledged(words, halves, bytes, clock, list, outbound, number)
         }
     }
 }

@@ -5,7 +5,6 @@ ghost use Rattle.handoffs.specs.Commands.{commandOf};
 ghost use Rattle.restores.specs.Restored.{Restored};
 ghost use Rattle.parts.specs.Parts.{parts};
 ghost use Rattle.parts.specs.Driven.{Driven};
-use crate::drive;
 use parts::Bytes;
 use parts::Halves;
 use parts::LinkAnswer;
@@ -81,7 +80,7 @@ pub extern "C" fn link_command(
     words: &mut Words,
     halves: &mut Halves,
     bytes: &mut Bytes,
-    clock: &mut f64,
+    clock: &f64,
     list: &mut [u64],
     outbound: &mut [u8],
     restoring: bool,
@@ -89,12 +88,20 @@ pub extern "C" fn link_command(
     id: u64,
     body: &[u8],
 ) -> LinkAnswer
-    ensures { λ x. ⌜ Driven (parts (now (words .entry)) (now (halves .entry)) (now (bytes .entry)) (now (clock .entry))) (parts (now (words .exit)) (now (halves .exit)) (now (bytes .exit)) (now (clock .exit))) x (λ s y. CalledWithOutbound (commands restoring (commandOf present id (now (body .entry)))) s (now (list .entry)) (now (outbound .entry)) y (now (list .exit)) (now (outbound .exit))) ⌝ }
+    ensures { λ x. ⌜ Driven (parts (now (words .entry)) (now (halves .entry)) (now (bytes .entry)) (now (clock .entry))) (parts (now (words .exit)) (now (halves .exit)) (now (bytes .exit)) (now (clock .entry))) x (λ s y. CalledWithOutbound (commands restoring (commandOf present id (now (body .entry)))) s (now (list .entry)) (now (outbound .entry)) y (now (list .exit)) (now (outbound .exit))) ⌝ }
 {
-    let s = link_codes::opened(words, halves, bytes, clock);
-    let sound = peer_session::sound(s);
-    let r = handoffs::channel_command(s, list, outbound, restoring, present, id, body);
-    drive::finished(words, halves, bytes, clock, sound, r)
+    link_handoffs::command(
+        words,
+        halves,
+        bytes,
+        clock,
+        list,
+        outbound,
+        restoring,
+        present,
+        id,
+        body,
+    )
 }
 
 // The session, which has done nothing yet, takes a record and a handoff.

@@ -73,13 +73,13 @@ pub extern "C" fn link_ack(
     words: &mut Words,
     halves: &mut Halves,
     bytes: &mut Bytes,
-    clock: &mut f64,
+    clock: &f64,
     list: &mut [u64],
     outbound: &mut [u8],
     queue: &mut [u8],
     number: u64,
 ) -> LinkAnswer
-    ensures { λ x. ⌜ Driven (parts (now (words .entry)) (now (halves .entry)) (now (bytes .entry)) (now (clock .entry))) (parts (now (words .exit)) (now (halves .exit)) (now (bytes .exit)) (now (clock .exit))) x (λ s y. CalledWithStores (gets-ack number) s (now (list .entry)) (now (outbound .entry)) (now (queue .entry)) y (now (list .exit)) (now (outbound .exit)) (now (queue .exit))) ⌝ }
+    ensures { λ x. ⌜ Driven (parts (now (words .entry)) (now (halves .entry)) (now (bytes .entry)) (now (clock .entry))) (parts (now (words .exit)) (now (halves .exit)) (now (bytes .exit)) (now (clock .entry))) x (λ s y. CalledWithStores (gets-ack number) s (now (list .entry)) (now (outbound .entry)) (now (queue .entry)) y (now (list .exit)) (now (outbound .exit)) (now (queue .exit))) ⌝ }
 {
     link_acks::ack(words, halves, bytes, clock, list, outbound, queue, number)
 }

@@ -160,6 +160,12 @@ module _ (h b : List ℕ) (lh : length h ≡ 772) (lb : 4936 ≤ length b) (good
       stage-after s
       (sym (stage-good (codes s) (sym (terms-decide (codes s) (omega arith) (low-mode (codesIn h b) good) (λ e. omega (arith, e)) refl)) (setup-retired 3 (record { number = 0; initiator = false }) (λ e. omega (arith, e)) (λ e. omega (arith, e)) refl) refl))
 
+  pub stage-starts : {d : ℕ} {h′ b′ : List ℕ} → Stages d 2 (record { number = 0; initiator = false }) h b h′ b′
+      → stageOf (codesIn h′ b′) ≡ under d Started (stageOf (codesIn h b))
+  stage-starts {d} s =
+      stage-after s
+      (sym (stage-good (codes s) (sym (terms-decide (codes s) (omega arith) (low-mode (codesIn h b) good) (λ e. omega (arith, e)) refl)) (setup-started 2 (record { number = 0; initiator = false }) (λ e. omega (arith, e)) refl) refl))
+
 -- ---- another disposition only
 
 pub disposition-apart : (h b : List ℕ) (d : ℕ) → Restaged h b h (set b 768 d)

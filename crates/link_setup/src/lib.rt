@@ -32,7 +32,7 @@ fn flag_byte(b: bool) -> u8
 }
 
 // Another disposition, and the setup of another code.
-fn stage(halves: &mut Halves, bytes: &mut Bytes, disposition: u8, setup: u8, terms: Terms)
+pub fn stage(halves: &mut Halves, bytes: &mut Bytes, disposition: u8, setup: u8, terms: Terms)
     ensures { λ _. ⌜ Stages disposition setup terms (now (halves .entry)) (now (bytes .entry)) (now (halves .exit)) (now (bytes .exit)) ⌝ }
 {
     halves[parts::TERMS] = terms.number;

@@ -132,7 +132,7 @@ fn flag_byte(b: bool) -> u8
 }
 
 // The handoff given, with a copy of its body.
-fn hand(words: &mut Words, bytes: &mut Bytes, given: Handoff, body: &[u8])
+pub fn hand(words: &mut Words, bytes: &mut Bytes, given: Handoff, body: &[u8])
     requires { ⌜ handoff-size (handoffGiven given (now body)) ≤ 4096 ⌝ }
     ensures { λ _. ⌜ HandedIn given (now (body .entry)) (now (words .entry)) (now (bytes .entry)) (now (words .exit)) (now (bytes .exit)) ⌝ }
 {

@@ -1,0 +1,2 @@
+-- What the contracts of `link_handoffs` cite.
+pub mod Commands
