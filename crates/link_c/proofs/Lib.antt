@@ -1,2 +1,1 @@
--- The laws of the calls for C.
-pub mod Drives
+-- The calls for C forward; two of them have a proof of their own.

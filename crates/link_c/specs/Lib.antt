@@ -1,3 +1,2 @@
 -- What the contracts of the calls for C cite.
 pub mod Forms
-pub mod Finished

@@ -4,7 +4,6 @@ ghost use Rattle.delivery.specs.Turns.{frameOf};
 ghost use Rattle.session.specs.Promise.{lent, Called, CalledWithStores, ToldWithList};
 ghost use Rattle.parts.specs.Parts.{parts};
 ghost use Rattle.parts.specs.Driven.{Driven, DrivenTold};
-use crate::drive;
 use parts::Bytes;
 use parts::Halves;
 use parts::LinkAnswer;
@@ -29,7 +28,7 @@ pub extern "C" fn link_data(
 ) -> LinkAnswer
     ensures { λ x. ⌜ Driven (parts (now (words .entry)) (now (halves .entry)) (now (bytes .entry)) (now (clock .entry))) (parts (now (words .exit)) (now (halves .exit)) (now (bytes .exit)) (now (clock .exit))) x (λ s y. Called (gets-data status (frameOf number kind (now (body .entry)))) s (lent (now (list .entry)) (now (delivery .entry)) (now (outbound .entry)) (now (queue .entry))) y (lent (now (list .exit)) (now (delivery .exit)) (now (outbound .exit)) (now (queue .exit)))) ⌝ }
 {
-    link_arrivals::data(
+    link_receiving::data(
         words,
         halves,
         bytes,
@@ -61,10 +60,18 @@ pub extern "C" fn link_consumer_ready(
 ) -> LinkAnswer
     ensures { λ x. ⌜ Driven (parts (now (words .entry)) (now (halves .entry)) (now (bytes .entry)) (now (clock .entry))) (parts (now (words .exit)) (now (halves .exit)) (now (bytes .exit)) (now (clock .exit))) x (λ s y. Called (is-ready status mode) s (lent (now (list .entry)) (now (delivery .entry)) (now (outbound .entry)) (now (queue .entry))) y (lent (now (list .exit)) (now (delivery .exit)) (now (outbound .exit)) (now (queue .exit)))) ⌝ }
 {
-    let s = link_codes::opened(words, halves, bytes, clock);
-    let sound = peer_session::sound(s);
-    let r = consumers::consumer_ready(s, list, delivery, outbound, queue, status, mode);
-    drive::finished(words, halves, bytes, clock, sound, r)
+    link_consumers::consumer_ready(
+        words,
+        halves,
+        bytes,
+        clock,
+        list,
+        delivery,
+        outbound,
+        queue,
+        status,
+        mode,
+    )
 }
 
 // An acknowledgement came in.

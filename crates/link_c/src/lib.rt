@@ -18,7 +18,6 @@ use starts::LinkClass;
 use starts::Reliable;
 
 pub mod channel; // a channel's setup and its end
-mod drive; // what a driver's call returned, stored and told
 pub mod incoming; // messages and acks that come in
 pub mod outgoing; // sending, and what is saved
 pub mod questions; // what a session is asked

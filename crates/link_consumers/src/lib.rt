@@ -31,7 +31,19 @@ fn ready(
     bytes[parts::MODE] = mode;
     let t = link_draining::turn_of(words, halves, bytes, clock);
     let e = link_draining::carry(
-        words, halves, bytes, clock, t, 0, status, list, 0, delivery, 0, outbound, queue,
+        words,
+        halves,
+        bytes,
+        clock,
+        t,
+        0,
+        status,
+        list,
+        0,
+        delivery,
+        0,
+        outbound,
+        queue,
     );
     link_codes::plain(0, 0, e.events)
 }
@@ -51,7 +63,7 @@ pub fn consumer_ready(
 ) -> LinkAnswer
     ensures { λ x. ⌜ Driven (parts (now (words .entry)) (now (halves .entry)) (now (bytes .entry)) (now (clock .entry))) (parts (now (words .exit)) (now (halves .exit)) (now (bytes .exit)) (now (clock .exit))) x (λ s y. Called (is-ready status mode) s (lent (now (list .entry)) (now (delivery .entry)) (now (outbound .entry)) (now (queue .entry))) y (lent (now (list .exit)) (now (delivery .exit)) (now (outbound .exit)) (now (queue .exit)))) ⌝ }
 {
-    let stop = link_arrivals::enters(
+    let stop = link_receiving::enters(
         words,
         halves,
         bytes,
@@ -64,7 +76,16 @@ pub fn consumer_ready(
     match stop {
         Stop::By(x) => link_codes::refusal(x),
         Stop::No => ready(
-            words, halves, bytes, clock, list, delivery, outbound, queue, status, mode as u8,
+            words,
+            halves,
+            bytes,
+            clock,
+            list,
+            delivery,
+            outbound,
+            queue,
+            status,
+            mode as u8,
         ),
     }
 }

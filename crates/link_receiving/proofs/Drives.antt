@@ -1,169 +1,125 @@
--- Data in place is the driver's call. Assumes nothing.
-use mathlib.Core.Path.{_≡_, refl, sym, ap, _∙_, subst}
-use mathlib.Core.Bool.{true}
-use mathlib.Core.List.{List, [], _∷_}
-use Prim.Native.Nat.{ℕ, zero, suc, _+_, _-_, _*_, _≤_, _<_}
-use native.Mathlib.Omega.{arith}
+-- Data in any mode, driven. Assumes nothing.
+use mathlib.Core.Path.{_≡_, refl, sym, _∙_, subst}
+use mathlib.Core.Bool.{Bool, true, false}
+use mathlib.Core.List.{List}
+use Prim.Native.Nat.{ℕ, _+_, _*_, _≤_, _<_}
 use lib.Ieee.{Float}
-use lib.ListN.{length, set, length-set}
-use lib.Seq.{getD-set-same, getD-set-other}
-use Rattle.stores.specs.Placed.{placed}
-use Rattle.rules.specs.declared.Clock.{Clock}
+use lib.ListN.{length}
+use lib.Dec.{ltb}
+use borrow.Author.Tests.{ltb-false}
 use Rattle.rules.specs.declared.HostStatus.{HostStatus}
-use Rattle.rules.specs.declared.Answer.the-variants.{Flag}
-use Rattle.rules.specs.Lists.{Bytes, put}
-use Rattle.rules.specs.State.{Frame, frame-number}
+use Rattle.rules.specs.declared.Refusal.{Refusal}
+use Rattle.rules.specs.declared.Answer.the-variants.{Flag, Refused}
+use Rattle.rules.specs.Lists.{Bytes}
+use Rattle.rules.specs.State.{Frame}
 use Rattle.rules.specs.Calls.{gets-data}
-use Rattle.events.specs.Written.{Listed, asked}
-use Rattle.queue.specs.View.{numQ, framesOf, blankQ, ExactQueue, Repacked}
-use Rattle.queue.proofs.View.{repacked-as}
+use Rattle.rules.specs.Buffers.{wrong-code}
+use Rattle.events.specs.declared.Stop.{Stop}
+use Rattle.events.specs.declared.Stop.the-variants.{No, By}
 use Rattle.peer_session.specs.declared.SessionState.{SessionState}
-use Rattle.peer_session.specs.View.{stateOf}
-use Rattle.peer_session.proofs.View.{Good}
+use Rattle.peer_session.specs.Sound as Sounds
 use Rattle.session.specs.declared.Returned.{Returned}
 use Rattle.session.specs.Promise.{lent, Called}
-use Rattle.delivery.specs.Turns.{frameOf}
-use Rattle.delivery.proofs.Queues.{recordAt}
-use Rattle.delivery.proofs.Written.{handed-over}
-use Rattle.draining.specs.Turns.{with-queue}
-use Rattle.draining.proofs.Calls.{arrived-good}
-use Rattle.receiving.proofs.Now.{limits}
+use Rattle.delivery.specs.declared.Turn.{Turn}
+use Rattle.draining.specs.Arrived.{told}
+use Rattle.draining.specs.Turns.{turnOf}
+use Rattle.draining.specs.Ends.{Fails}
+use Rattle.receiving.specs.declared.Verdict.{Verdict}
+use Rattle.receiving.specs.declared.Verdict.the-variants.{Refuse, Fail, Again, New}
+use Rattle.receiving.specs.Checks.{Acknowledges, Acknowledging, Anew, Delivers}
+use Rattle.receiving.proofs.Checks.{spent, spent-reach}
+use Rattle.receiving.proofs.Data.{data-takes, check-fits, fail-fits, refused-by, failed-by, again-fits, again-by, new-fits, new-by}
+use Rattle.receiving.proofs.Next.{new-above, taking}
 use Rattle.parts.specs.declared.LinkAnswer.{LinkAnswer}
-use Rattle.parts.specs.Codes.{answerOf}
-use Rattle.parts.specs.Parts.{parts, at, queuedAt, queueIn, clockIn, openedOf}
+use Rattle.parts.specs.Codes.{good-codes, answerOf}
+use Rattle.parts.specs.Parts.{Parts, parts, at, codesIn, openedOf}
 use Rattle.parts.specs.Driven.{Driven}
-use Rattle.parts.proofs.Seats.{getD-seats}
-use Rattle.parts.proofs.Drives.{changes}
-use Rattle.link_queue.specs.Joins.{Joins, Joined}
-use Rattle.link_receiving.specs.Steps.{Confirms, Confirmed}
-use Rattle.link_receiving.specs.Ways.{Data, Now, Later}
-use Rattle.link_receiving.proofs.Calls as Calls
-use Rattle.link_receiving.proofs.Calls.{taken}
-use Rattle.link_receiving.proofs.Queues.{not-queued, goes-last}
-use Rattle.link_receiving.proofs.Opens.{joined-opens, taken-opens, clock-is}
+use Rattle.parts.proofs.Drives.{refuses, changes}
+use Rattle.link_numbers.specs.Sets.{Rising}
+use Rattle.link_sound.proofs.Parts.{usable}
+use Rattle.link_draining.specs.declared.Ending.{Ending}
+use Rattle.link_draining.specs.Endings.{endedOf}
+use Rattle.link_draining.specs.Steps.{Failing}
+use Rattle.link_receiving.specs.Entry.{Spends, Enters}
+use Rattle.link_receiving.proofs.Entry.{found-by, arrives}
+use Rattle.link_receiving.specs.Steps.{Countable, Judged, Arriving, Receiving, Taking}
 
-module _ {number kind : ℕ} {body : Bytes} {w h b : List ℕ} {t : Float} {l : List ℕ} {d o q : Bytes}
-    (pre : Data (frameOf number kind body) w h b t l d o q) where
-  abbrev f : Frame
-  f = frameOf number kind body
+module _ (status : HostStatus) (f : Frame) (w h b : List ℕ) (t : Float) (l : List ℕ) (d o q : Bytes) (pre : Arriving f w h b t l d o q) where
+  abbrev p : Parts
+  p = parts w h b t
 
-  abbrev s : SessionState
-  s = openedOf (parts w h b t)
+  checked : Sounds.Checked (openedOf p) true
+  checked = record { is = sym (pre .arrived .good); full = pre .arrived .full }
 
-  abbrev Call : HostStatus → List ℕ → Bytes → Bytes → SessionState → Returned → Type 0
-  Call status l′ d′ q′ z r = Called (gets-data status f) z (lent l d o q) r (lent l′ d′ o q′)
-
-  good : Good s o q
-  good = arrived-good s l d o q (pre .arrived)
-
-  -- ---- it is delivered
-
-  pub confirms : Confirms w h
+  pub countable : Countable w
   unfolding openedOf
-  confirms = record { free = omega (arith, pre .fresh .free); slow = omega (arith, pre .arrived .low) }
+  countable = record { waits = check-fits (pre .arrived) .0; few = check-fits (pre .arrived) .1 }
 
-  pub fits : length body ≤ 16384
-  fits = omega (arith, pre .fresh .short, limits (stateOf s o q) (good .sound) .body)
+  pub may-fail : Failing w h b 0 (length l) (length q)
+  unfolding openedOf
+  may-fail = record { queued = fail-fits (pre .arrived) .0; room = fail-fits (pre .arrived) .1; codes = usable w h b t checked .codes }
 
-  module _ {w′ h′ : List ℕ} (c : Confirmed number w h w′ h′) where
-    opens : openedOf (parts w′ h′ b t) ≡ taken number s
-    opens =
-        ap (λ (x : List ℕ). openedOf (parts x h′ b t)) (c .words)
-        ∙ ap (λ (x : List ℕ). openedOf (parts (set (set (set w (272 + at w 5) number) 5 (at w 5 + 1)) 2 number) x b t)) (c .halves)
-        ∙ taken-opens w h b t (pre .words) (pre .halves) (pre .bytes) number (confirms .free)
+  module _ {v : Verdict} (j : Judged (f .number) (length (f .body)) w v) where
+    pub refused : (x : Refusal) → v ≡ Refuse x → {y : LinkAnswer} → y ≡ answerOf (Refused x) 0
+        → Driven p p y (λ s r. Called (gets-data status f) s (lent l d o q) r (lent l d o q))
+    refused x e a = refuses p x a (λ r tu. refused-by status f (openedOf p) l d o q (pre .arrived) (pre .kind) (j h b t) e tu)
 
-    clocked : clockIn h′ t ≡ taken number s .clock
-    unfolding openedOf
-    clocked = ap (λ (x : List ℕ). clockIn x t) (c .halves) ∙ clock-is w h b t (pre .words) (pre .halves) (pre .bytes) number (confirms .free)
+    pub may-acknowledge : v ≡ Again → Acknowledging (f .number) (openedOf p) (length l) × Rising 272 5 w
+    may-acknowledge e = (again-fits status f (openedOf p) l d o q (pre .arrived) (pre .kind) (j h b t) e, usable w h b t checked .waiting)
 
-    module _ {status : HostStatus} (now : Now status number w) {l₁ : List ℕ} {d′ : Bytes} (e₁ : l₁ ≡ placed l (4 * 0) (2 ∷ number ∷ 0 ∷ length body ∷ [])) (e₂ : d′ ≡ placed d 0 body)
-        {k : Clock} (ck : k ≡ clockIn h′ t) {l₂ : List ℕ} {m : ℕ} (first : Listed (asked k) l₁ 1 l₂ m) {l′ : List ℕ} {n : ℕ} (second : Listed (asked k) l₂ m l′ n)
-        (el : length l′ ≡ length l) (ed : length d′ ≡ length d) where
-      called : Call status l′ d′ q s (record { session = taken number s; answer = Flag true; events = n })
-      unfolding openedOf
-      called =
-          let z : k ≡ taken number s .clock = ck ∙ clocked in
-          Calls.delivered status f s l d o q (pre .arrived) (pre .fresh) (now .there) (now .next) (now .alone) (handed-over number body l 0 d 0 l₁ d′ e₁ e₂)
-          (subst (λ (x : Clock). Listed (asked x) l₁ (0 + 1) l₂ m) z first) (subst (λ (x : Clock). Listed (asked x) l₂ m l′ n) z second) el ed
+    pub may-receive : v ≡ New → Receiving f w h b t l d o q
+    may-receive e = record { checked = checked; receiving = new-fits status f (openedOf p) l d o q (pre .arrived) (pre .kind) (j h b t) e }
 
-      pub delivered : {y : LinkAnswer} → y ≡ answerOf (Flag true) n → Driven (parts w h b t) (parts w′ h′ b t) y (λ z r. Call status l′ d′ q z r)
-      delivered e = changes (parts w h b t) (pre .arrived .good) (parts w′ h′ b t) (taken number s) opens (Flag true) n e called
+    module _ (p′ : Parts) {r : Ending} {y : LinkAnswer} (a : y ≡ answerOf (told (Flag true) (r .stop)) (r .events)) where
+      pub failed : (x : Refusal) → v ≡ Fail x → {l′ : List ℕ} {q′ : Bytes} → Fails x (openedOf p) l 0 q (endedOf (openedOf p′) r) l′ q′
+          → Driven p p′ y (λ s z. Called (gets-data status f) s (lent l d o q) z (lent l′ d o q′))
+      failed x e c =
+          changes p (pre .arrived .good) p′ (openedOf p′) refl (told (Flag true) (r .stop)) (r .events) a
+          (failed-by status f (openedOf p) l d o q (pre .arrived) (pre .kind) (j h b t) e c refl)
 
-  -- ---- it joins the queue
+      pub acknowledged : v ≡ Again → {l′ : List ℕ} → Acknowledges (f .number) (openedOf p) l (endedOf (openedOf p′) r) l′
+          → Driven p p′ y (λ s z. Called (gets-data status f) s (lent l d o q) z (lent l′ d o q))
+      acknowledged e c =
+          changes p (pre .arrived .good) p′ (openedOf p′) refl (told (Flag true) (r .stop)) (r .events) a
+          (again-by status f (openedOf p) l d o q (pre .arrived) (pre .kind) (j h b t) e c refl)
 
-  module _ {status : HostStatus} {end : ℕ} (later : Later status number (length body) w h b end) where
-    exact : ExactQueue (queueIn w h b) (length q)
-    unfolding openedOf
-    exact = good .exact .queued
+      pub received : v ≡ New → {l′ : List ℕ} {d′ o′ q′ : Bytes} → Anew status f (openedOf p) l d o q (endedOf (openedOf p′) r) l′ d′ o′ q′
+          → Driven p p′ y (λ s z. Called (gets-data status f) s (lent l d o q) z (lent l′ d′ o′ q′))
+      received e c =
+          changes p (pre .arrived .good) p′ (openedOf p′) refl (told (Flag true) (r .stop)) (r .events) a
+          (new-by status f (openedOf p) l d o q (pre .arrived) (pre .kind) (j h b t) e c refl)
 
-    pub joins : Joins w h b (length q) end (length body)
-    unfolding openedOf
-    joins =
-        let k = limits (stateOf s o q) (good .sound) in
-        record {
-          room =
-              record {
-                exact = exact;
-                within = omega arith;
-                free = omega (arith, later .few, k .messages);
-                short = omega (arith, later .short, later .is, k .bytes);
-              };
-          is = later .is;
-          words = pre .words;
-          halves = pre .halves;
-          bytes = pre .bytes;
-        }
+-- ---- data that is no duplicate
 
-    module _ {w′ h′ b′ : List ℕ} {q′ : Bytes} (j : Joined number kind body w h b q w′ h′ b′ q′) where
-      free : at w 4 < 256
-      free = joins .room .free
+module _ {f : Frame} (w h b : List ℕ) (t : Float) {l : List ℕ} {d o q : Bytes} (pre : Receiving f w h b t l d o q) where
+  pub codes : good-codes (codesIn h b) ≡ true
+  codes = usable w h b t (pre .checked) .codes
 
-      counted : at w′ 4 ≡ at w 4 + 1
-      counted =
-          ap (λ (x : List ℕ). at x 4) (j .words)
-          ∙ getD-set-same (set w (16 + at w 4) number) 4 (at w 4 + 1) 0 (omega (arith, length-set w (16 + at w 4) number, pre .words))
+  module _ {u : Turn} (e : u ≡ turnOf (openedOf (parts w h b t))) where
+    pub above : u .remote < f .number
+    above = new-above (pre .receiving) e
 
-      opens-joined : openedOf (parts w′ h′ b′ t) ≡ with-queue (queueIn w′ h′ b′) s
-      opens-joined =
-          let w₁ : List ℕ = set (set w (16 + at w 4) number) 4 (at w 4 + 1) in
-          let h₁ : List ℕ = set h (512 + at w 4) (length body) in
-          let b₁ : List ℕ = set b (512 + at w 4) kind in
-          let e : openedOf (parts w₁ h₁ b₁ t) ≡ with-queue (queueIn w₁ h₁ b₁) s =
-          joined-opens w h b t (pre .words) (pre .halves) (pre .bytes) (at w 4) number (at w 4 + 1) kind (length body) free in
-          subst (λ (x : List ℕ). openedOf (parts x h′ b′ t) ≡ with-queue (queueIn x h′ b′) s) (sym (j .words))
-          (subst (λ (x : List ℕ). openedOf (parts w₁ x b′ t) ≡ with-queue (queueIn w₁ x b′) s) (sym (j .halves))
-          (subst (λ (x : List ℕ). openedOf (parts w₁ h₁ x t) ≡ with-queue (queueIn w₁ h₁ x) s) (sym (j .bytes)) e))
+    pub choosing : (now : Bool) (status : HostStatus) {r : Bool} → Delivers status (f .number) (f .kind) u r → r ≡ now → Taking now status u f w h b t l d o q
+    choosing now status g z = record { checked = pre .checked; taking = taking now status (pre .receiving) e g z }
 
-      first-is : recordAt (queueIn w′ h′ b′) 0 .number ≡ at (set w (16 + at w 4) number) 16
-      first-is =
-          ap numQ (getD-seats 256 (queuedAt w′ h′ b′) 0 blankQ (omega arith))
-          ∙ ap (λ (x : List ℕ). at x 16) (j .words)
-          ∙ getD-set-other (set w (16 + at w 4) number) 4 16 (at w 4 + 1) 0 (λ z. omega arith)
+-- ---- the call
 
-      still-there : status .available ≡ true → recordAt (queueIn w′ h′ b′) 0 .number ≡ at w 2 + 1 → ⊥
-      still-there there e = go (at w 4) refl
-        where
-          go : (k : ℕ) → at w 4 ≡ k → ⊥
-          go zero z =
-              let x : at (set w (16 + at w 4) number) 16 ≡ number =
-              ap (λ (i : ℕ). at (set w (16 + i) number) 16) z ∙ getD-set-same w 16 number 0 (omega (arith, pre .words)) in
-              later .ahead there (omega (arith, first-is))
-          go (suc k) z =
-              let x : at (set w (16 + at w 4) number) 16 ≡ at w 16 = getD-set-other w (16 + at w 4) 16 number 0 (λ y. omega arith) in
-              later .still there (omega arith) (omega (arith, first-is))
+data-code : (status : HostStatus) (f : Frame) → wrong-code (gets-data status f) ≡ ltb 2 (f .kind)
+unfolding wrong-code
+data-code status f = refl
 
-      packed-last : Repacked (queueIn w h b) q (put frame-number f (framesOf (queueIn w h b) q)) (queueIn w′ h′ b′) q′
-      unfolding openedOf
-      packed-last =
-          repacked-as (goes-last w h b q exact (at w 2) (good .sound .1 .order) number (pre .fresh .new) (later .top) kind body) (j .repacked)
+spends : (status : HostStatus) (f : Frame) → ltb 2 (f .kind) ≡ false → Spends (gets-data status f)
+spends status f e =
+    let k : f .kind ≤ 2 = ltb-false 2 (f .kind) e in
+    record { reach = λ s g. spent-reach status f s k g; refuses = λ s g. spent status f s k g }
 
-      module _ {l′ : List ℕ} {n : ℕ} (li : Listed (asked (clockIn h t)) l 0 l′ n) (el : length l′ ≡ length l) where
-        called-joined : Call status l′ d q′ s (record { session = with-queue (queueIn w′ h′ b′) s; answer = Flag true; events = n })
-        unfolding openedOf
-        called-joined =
-            Calls.joined status f s l d o q (pre .arrived) (pre .fresh) (later .ahead)
-            (not-queued w h b q exact (at w 2) (good .sound .1 .order) number (pre .fresh .new) (later .top)) (later .few)
-            (omega (arith, later .short, later .is)) packed-last (omega (arith, counted)) still-there li el
+module _ (status : HostStatus) (f : Frame) (w h b : List ℕ) (t : Float) (l : List ℕ) (d o q : Bytes) {z : Stop}
+    (e : Enters w h b (ltb 2 (f .kind)) (length l) (length d) (length o) (length q) z) where
+  pub stopped : (x : Refusal) → z ≡ By x → {y : LinkAnswer} → y ≡ answerOf (Refused x) 0
+      → Driven (parts w h b t) (parts w h b t) y (λ s r. Called (gets-data status f) s (lent l d o q) r (lent l d o q))
+  stopped x ez a =
+      refuses (parts w h b t) x a
+      (λ r tu. found-by l d o q e t (By x) ez .call (gets-data status f) (data-takes status f) (data-code status f) (spends status f) l d o q refl refl refl refl r tu)
 
-        pub joined : {y : LinkAnswer} → y ≡ answerOf (Flag true) n → Driven (parts w h b t) (parts w′ h′ b′ t) y (λ z r. Call status l′ d q′ z r)
-        joined e = changes (parts w h b t) (pre .arrived .good) (parts w′ h′ b′ t) (with-queue (queueIn w′ h′ b′) s) opens-joined (Flag true) n e called-joined
+  pub arriving : z ≡ No → Arriving f w h b t l d o q
+  arriving ez = record { arrived = arrives l d o q e t ez; kind = ltb-false 2 (f .kind) (found-by l d o q e t No ez .known) }

@@ -1,3 +1,3 @@
--- What the contracts of data in place cite: `Steps` what it writes, `Ways` what must hold for it.
+-- What the contracts of data in any mode cite: `Entry` the tests at the entry, `Steps` what must hold past them.
+pub mod Entry
 pub mod Steps
-pub mod Ways

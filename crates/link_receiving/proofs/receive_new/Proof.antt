@@ -1,0 +1,58 @@
+use mathlib.Core.Bool.{true, false}
+use Rattle.link_receiving.proofs.Drives.{codes, above, choosing}
+use borrow.Author.Needs.{needs}
+use Rattle.link_receiving.proofs.receive_new.Statement.{statement}
+use Rattle.link_receiving.proofs.receive_new.Tie as tie
+use Rattle.link_receiving.proofs.receive_new.Reads as reads
+use Rattle.link_receiving.proofs.receive_new.Lts as lts
+use Rattle.link_receiving.proofs.enqueue.Reads as enqueue-reads
+use Rattle.link_receiving.proofs.take_now.Reads as take-now-reads
+use Rattle.link_draining.proofs.turn_of.Reads as turn-of-reads
+use Rattle.receiving.proofs.delivers.Reads as delivers-reads
+
+turn-of-requires : tie.Need-turn-of-requires
+turn-of-requires c κs = codes (c .before .before .before .before .before .before .before .before .before .args .words .now) (c .before .before .before .before .before .before .before .before .before .args .halves .now) (c .before .before .before .before .before .before .before .before .before .args .bytes .now) (c .before .before .before .before .before .before .before .before .before .args .clock .now) (c .before .before .before .before .before .before .before .before .before .pre)
+
+delivers-requires : tie.Need-delivers-requires
+delivers-requires c κs = above (c .before .before .before .before .before .before .before .before .before .before .args .words .now) (c .before .before .before .before .before .before .before .before .before .before .args .halves .now) (c .before .before .before .before .before .before .before .before .before .before .args .bytes .now) (c .before .before .before .before .before .before .before .before .before .before .args .clock .now) (c .before .before .before .before .before .before .before .before .before .before .pre) (c .turn-of .ensures)
+
+take-now-requires : tie.Need-take-now-requires
+take-now-requires c κs = choosing (c .before .before .before .before .before .before .before .before .before .before .before .before .before .before .before .before .before .before .before .before .args .words .now) (c .before .before .before .before .before .before .before .before .before .before .before .before .before .before .before .before .before .before .before .before .args .halves .now) (c .before .before .before .before .before .before .before .before .before .before .before .before .before .before .before .before .before .before .before .before .args .bytes .now) (c .before .before .before .before .before .before .before .before .before .before .before .before .before .before .before .before .before .before .before .before .args .clock .now) (c .before .before .before .before .before .before .before .before .before .before .before .before .before .before .before .before .before .before .before .before .pre) (c .before .before .before .before .before .before .before .before .before .before .turn-of .ensures) true (c .before .before .before .before .before .before .before .before .before .before .before .before .before .before .before .before .before .before .before .before .args .status) (c .before .before .before .before .before .before .before .before .before .delivers .ensures) (c .before .before .before .before .before .before .before .before .if1 .taken)
+
+same-length : tie.Need-same-length
+same-length c = search needs
+
+same-length-2 : tie.Need-same-length-2
+same-length-2 c = search needs
+
+same-length-3 : tie.Need-same-length-3
+same-length-3 c = search needs
+
+same-length-4 : tie.Need-same-length-4
+same-length-4 c = search needs
+
+returns : tie.Need-returns
+returns c = c .before .before .before .before .before .before .before .before .take-now .ensures
+
+enqueue-requires : tie.Need-enqueue-requires
+enqueue-requires c κs = choosing (c .before .before .before .before .before .before .before .before .before .before .before .before .before .before .before .before .before .before .before .before .args .words .now) (c .before .before .before .before .before .before .before .before .before .before .before .before .before .before .before .before .before .before .before .before .args .halves .now) (c .before .before .before .before .before .before .before .before .before .before .before .before .before .before .before .before .before .before .before .before .args .bytes .now) (c .before .before .before .before .before .before .before .before .before .before .before .before .before .before .before .before .before .before .before .before .args .clock .now) (c .before .before .before .before .before .before .before .before .before .before .before .before .before .before .before .before .before .before .before .before .pre) (c .before .before .before .before .before .before .before .before .before .before .turn-of .ensures) false (c .before .before .before .before .before .before .before .before .before .before .before .before .before .before .before .before .before .before .before .before .args .status) (c .before .before .before .before .before .before .before .before .before .delivers .ensures) (c .before .before .before .before .before .before .before .before .if1 .left)
+
+same-length-5 : tie.Need-same-length-5
+same-length-5 c = search needs
+
+same-length-6 : tie.Need-same-length-6
+same-length-6 c = search needs
+
+same-length-7 : tie.Need-same-length-7
+same-length-7 c = search needs
+
+same-length-8 : tie.Need-same-length-8
+same-length-8 c = search needs
+
+returns-2 : tie.Need-returns-2
+returns-2 c = c .before .before .before .before .before .before .before .before .enqueue .ensures
+
+pub receive-new-spec : {M : Type 1} → statement M
+receive-new-spec =
+    tie.close
+    (tie.spec turn-of-requires delivers-requires take-now-requires same-length same-length-2 same-length-3 same-length-4 returns enqueue-requires same-length-5 same-length-6 same-length-7 same-length-8 returns-2)
