@@ -263,7 +263,7 @@ fn acknowledged(
     let left = words[parts::UNACKED];
     bytes[parts::HANDOFF_ACKNOWLEDGED] = flag;
     halves[parts::GENERATION] = raised(generation, before, left);
-    let k = link_codes::reading::clock_in(halves, clock);
+    let k = link_codes::clock_in(halves, clock);
     let n = events::request(k, list, 0);
     let m = acks::notify_acknowledged(complete(disposition, left), raw, list, n, number);
     link_codes::plain(2, 1, m)

@@ -1,5 +1,5 @@
 -- Enums that are answers, as structs for C. Assumes nothing.
-use mathlib.Core.Bool.{Bool, true, false}
+use mathlib.Core.Bool.{true, false}
 use Rattle.session.specs.declared.ChannelTerms.{ChannelTerms}
 use Rattle.session.specs.declared.ChannelTerms.the-variants.{Waiting, NotWaiting}
 use Rattle.starts.specs.declared.LinkClass.{LinkClass}

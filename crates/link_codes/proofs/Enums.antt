@@ -1,8 +1,8 @@
--- Codes to enums and back, test by test. Assumes nothing.
-use mathlib.Core.Path.{_≡_, refl, sym, ap, _∙_}
-use mathlib.Core.Bool.{Bool, true, false, _&&_}
+-- Codes to enums, test by test; and an answer as numbers. Assumes nothing.
+use mathlib.Core.Path.{_≡_, sym, ap, _∙_}
+use mathlib.Core.Bool.{true, false}
 use Prim.Native.Nat.{ℕ, _≤_, _<_}
-use lib.Dec.{leb, eqb}
+use lib.Dec.{eqb}
 use borrow.Author.Tests.{eq-eqb, ne-eqb, le-leb, lt-leb}
 use Rattle.rules.specs.declared.Answer.{Answer}
 use Rattle.rules.specs.declared.Terms.{Terms}
@@ -10,12 +10,11 @@ use Rattle.rules.specs.declared.Setup.{Setup}
 use Rattle.rules.specs.declared.Setup.the-variants as Setups
 use Rattle.rules.specs.declared.ReceiveMode.{ReceiveMode}
 use Rattle.rules.specs.declared.ReceiveMode.the-variants.{Raw, Proposal, Channel, Rejection, Retiring}
-use Rattle.rules.specs.Lists.{if_then_else_}
 use Rattle.rules.specs.Receiving.{mode-of}
 use Rattle.peer_session.specs.declared.Stage.{Stage}
 use Rattle.parts.specs.declared.StageCodes.{StageCodes}
 use Rattle.parts.specs.declared.LinkAnswer.{LinkAnswer}
-use Rattle.parts.specs.Codes.{good-codes, setupOf, bad-stage, good-stage, stageOf, setup-code, terms-number, terms-initiator, mode-code, stage-codes, handed, answerOf}
+use Rattle.parts.specs.Codes.{good-codes, setupOf, bad-stage, stageOf, answerOf}
 
 -- ---- tests
 
@@ -83,10 +82,6 @@ module _ (g : StageCodes) where
       ap (λ (x : Setup). record { disposition = g .disposition; setup = x; mode = m; failed = g .failed }) a
       ∙ ap (λ (x : ReceiveMode). record { disposition = g .disposition; setup = setupOf (g .setup) (record { number = g .terms; initiator = g .initiator }); mode = x; failed = g .failed }) b
       ∙ rw e
-
-pub stage-coded : (g : Stage) {n s m : ℕ} {i : Bool} → n ≡ terms-number (g .setup) → s ≡ setup-code (g .setup) → i ≡ terms-initiator (g .setup) → m ≡ mode-code (g .mode)
-    → _≡_ {A = StageCodes} (record { terms = n; disposition = g .disposition; setup = s; initiator = i; mode = m; failed = g .failed }) (stage-codes g)
-stage-coded g a b c d = cc
 
 -- ---- answers
 

@@ -1,14 +1,14 @@
-// Enums as numbers, and back.
+// The stage of a session, which lies in its parts as numbers.
 ghost use mathlib.Core.Path.{_≡_};
 ghost use Rattle.rules.specs.Receiving.{mode-of};
-ghost use Rattle.parts.specs.Codes.{good-codes, setupOf, stageOf, setup-code, terms-number, terms-initiator, mode-code, stage-codes};
+ghost use Rattle.parts.specs.Codes.{good-codes, setupOf, stageOf};
 use parts::StageCodes;
 use peer_session::Stage;
 use rules::ReceiveMode;
 use rules::Setup;
 use rules::Terms;
 
-// Codes that a session closes to: those of the lists above, and terms only of a setup that waits.
+// Codes that calls leave: those of `StageCodes`' lists, and terms only of a setup that waits.
 fn good_codes(g: StageCodes) -> bool
     ensures { λ r. ⌜ r ≡ good-codes g ⌝ }
 {
@@ -82,67 +82,6 @@ pub fn stage_of(g: StageCodes) -> Stage
         disposition: g.disposition,
         setup: setup,
         mode: mode,
-        failed: g.failed,
-    }
-}
-
-fn setup_code(s: Setup) -> u8
-    ensures { λ r. ⌜ r ≡ setup-code s ⌝ }
-{
-    match s {
-        Setup::None => 0,
-        Setup::Waiting(_) => 1,
-        Setup::Started => 2,
-        Setup::Retired => 3,
-    }
-}
-
-// A setup that does not wait has terms number 0, and no initiator.
-fn terms_number(s: Setup) -> u32
-    ensures { λ r. ⌜ r ≡ terms-number s ⌝ }
-{
-    match s {
-        Setup::None => 0,
-        Setup::Waiting(t) => t.number,
-        Setup::Started => 0,
-        Setup::Retired => 0,
-    }
-}
-
-fn terms_initiator(s: Setup) -> bool
-    ensures { λ r. ⌜ r ≡ terms-initiator s ⌝ }
-{
-    match s {
-        Setup::None => false,
-        Setup::Waiting(t) => t.initiator,
-        Setup::Started => false,
-        Setup::Retired => false,
-    }
-}
-
-fn mode_code(m: ReceiveMode) -> u8
-    ensures { λ r. ⌜ r ≡ mode-code m ⌝ }
-{
-    match m {
-        ReceiveMode::Raw => 0,
-        ReceiveMode::Proposal => 1,
-        ReceiveMode::Channel => 2,
-        ReceiveMode::Rejection => 3,
-        ReceiveMode::Retiring => 4,
-    }
-}
-
-pub fn stage_codes(g: Stage) -> StageCodes
-    ensures { λ r. ⌜ r ≡ stage-codes g ⌝ }
-{
-    let setup = g.setup;
-    let mode = g.mode;
-    StageCodes {
-        terms: terms_number(setup),
-        disposition: g.disposition,
-        setup: setup_code(setup),
-        initiator: terms_initiator(setup),
-        mode: mode_code(mode),
         failed: g.failed,
     }
 }

@@ -32,7 +32,7 @@ pub fn prepare(words: &Words, halves: &Halves, bytes: &Bytes, clock: &f64) -> Li
 
 // ---- completing
 
-// The tests of a completed commit, in their order. The slice tells a proof the array's length.
+// The tests of a completed commit, in their order.
 fn enters(
     words: &Words,
     halves: &Halves,
@@ -42,7 +42,7 @@ fn enters(
 ) -> Stop
     ensures { λ r. ⌜ Enters (now (words .entry)) (now (halves .entry)) (now (bytes .entry)) list commit r ⌝ }
 {
-    let all: &[u32] = halves;
+    parts::full_halves(halves);
     if list < SessionState::EVENT_WORDS {
         return Stop::By(Refusal::ShortBuffer);
     }
@@ -99,7 +99,7 @@ fn finish(
     requires { ⌜ Ready (parts (now words) (now halves) (now bytes) (now clock)) (length (now list)) commit ⌝ }
     ensures { λ x. ⌜ Driven (parts (now (words .entry)) (now (halves .entry)) (now (bytes .entry)) (now (clock .entry))) (parts (now (words .exit)) (now (halves .exit)) (now (bytes .exit)) (now (clock .entry))) x (λ s y. CalledWithList (completes commit persisted) s (now (list .entry)) y (now (list .exit))) ⌝ }
 {
-    let k = link_codes::reading::clock_in(halves, clock);
+    let k = link_codes::clock_in(halves, clock);
     let after = commits::persisted_by(k, commit, persisted);
     halves[parts::PERSISTED_GENERATION] = after.persisted;
     let released = release_by(words, halves, bytes, list, commit);

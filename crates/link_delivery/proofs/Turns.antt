@@ -16,7 +16,7 @@ use Rattle.events.specs.Written.{Books, books}
 use Rattle.numbers.specs.declared.Numbers.{Numbers}
 use Rattle.queue.specs.declared.Queued.{Queued}
 use Rattle.queue.specs.declared.Queue.{Queue}
-use Rattle.queue.specs.View.{frame, blankQ, lenQ, usedQ}
+use Rattle.queue.specs.View.{blankQ, lenQ, usedQ}
 use Rattle.queue.proofs.Changes.{start-within, start-plain}
 use Rattle.delivery.specs.declared.Turn.{Turn}
 use Rattle.delivery.specs.declared.Step.{Step}

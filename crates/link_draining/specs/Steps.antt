@@ -14,7 +14,7 @@ use Rattle.peer_session.specs.View.{rejectOf}
 use Rattle.delivery.specs.declared.Turn.{Turn}
 use Rattle.draining.specs.Turns.{Settles, Advances}
 use Rattle.parts.specs.Codes.{good-codes}
-use Rattle.parts.specs.Parts.{Parts, parts, at, outboxIn, queueIn, waitingIn, codesIn, rejectIn, openedOf}
+use Rattle.parts.specs.Parts.{Parts, at, outboxIn, queueIn, waitingIn, codesIn, rejectIn, openedOf}
 use Rattle.parts.specs.Frames.{Past}
 
 -- ---- the outbox

@@ -22,7 +22,6 @@ use parts::Words;
 use parts::full_bytes;
 use parts::full_halves;
 use parts::full_words;
-use peer_session::RejectBody;
 use rules::Clock;
 use rules::HostStatus;
 use rules::Refusal;
@@ -40,7 +39,7 @@ pub fn turn_of(words: &Words, halves: &Halves, bytes: &Bytes, clock: &f64) -> Tu
     ensures { λ r. ⌜ r ≡ turnOf (openedOf (parts (now (words .entry)) (now (halves .entry)) (now (bytes .entry)) (now (clock .entry)))) ⌝ }
 {
     let mode = link_codes::coding::mode_of(bytes[parts::MODE]);
-    let time = link_codes::reading::clock_in(halves, clock);
+    let time = link_codes::clock_in(halves, clock);
     Turn {
         mode: mode,
         failed: bytes[parts::FAILED] != 0,
@@ -54,19 +53,12 @@ pub fn turn_of(words: &Words, halves: &Halves, bytes: &Bytes, clock: &f64) -> Tu
     }
 }
 
-// The reject body, which lies among the bytes that a message that joins changes.
-fn reject_body(words: &Words, bytes: &Bytes) -> RejectBody
-    ensures { λ r. ⌜ r ≡ rejectIn (now (words .entry)) (now (bytes .entry)) ⌝ }
-{
-    link_codes::reading::reject_in(words, bytes)
-}
-
 // The rejection sent anew.
 fn send_reject(words: &mut Words, halves: &mut Halves, bytes: &mut Bytes, outbound: &mut [u8])
     requires { ⌜ (Room (outboxIn (now words) (now halves) (now bytes)) (length (now outbound)) 0 (at (now words) 14)) × (at (now words) 14 ≤ length (rejectIn (now words) (now bytes) .bytes)) ⌝ }
     ensures { λ _. ⌜ Joins (now (words .entry)) (now (halves .entry)) (now (bytes .entry)) (now (outbound .entry)) (rejectOf (rejectIn (now (words .entry)) (now (bytes .entry)))) (now (words .exit)) (now (halves .exit)) (now (bytes .exit)) (now (outbound .exit)) ⌝ }
 {
-    let j = reject_body(words, bytes);
+    let j = link_codes::reject_in(words, bytes);
     let body = j.bytes;
     let len = j.len;
     link_outbox::append(words, halves, bytes, outbound, 0, &body[..len]);

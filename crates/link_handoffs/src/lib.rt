@@ -75,7 +75,7 @@ fn done(halves: &Halves, clock: &f64, list: &mut [u64]) -> LinkAnswer
     requires { ⌜ 4096 ≤ length (now list) ⌝ }
     ensures { λ x. ⌜ AsksIn (clockIn (now (halves .entry)) (now (clock .entry))) (now (list .entry)) x (now (list .exit)) ⌝ }
 {
-    let k = link_codes::reading::clock_in(halves, clock);
+    let k = link_codes::clock_in(halves, clock);
     let n = events::request(k, list, 0);
     link_codes::plain(0, 0, n)
 }

@@ -1,5 +1,4 @@
 // Elements of one part of a session that C lends move to other places of it, as records of a list do when some go or one comes.
-ghost use mathlib.Core.Path.{_≡_};
 ghost use Prim.Native.Nat.{_+_, _≤_, _<_};
 ghost use Rattle.link_moves.specs.Moves.{Lowered, Raised};
 use parts::Bytes;

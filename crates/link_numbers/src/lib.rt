@@ -12,9 +12,8 @@ ghost use Rattle.rules.specs.Commits.{releases-ack};
 ghost use Rattle.rules.specs.Events.{send-ack};
 ghost use Rattle.rules.specs.Sound.{at-most, ascending};
 ghost use Rattle.events.specs.Written.{Listed};
-ghost use Rattle.numbers.specs.Seats.{inUse, seatOf, step, Holds, ReleasesAcks};
+ghost use Rattle.numbers.specs.Seats.{inUse, seatOf, step};
 ghost use Rattle.parts.specs.Parts.{section, numbersIn};
-ghost use Rattle.parts.specs.Frames.{Only};
 ghost use Rattle.link_numbers.specs.Sets.{Set, Lies, firsts, Rising, Becomes, Releases};
 use parts::Words;
 

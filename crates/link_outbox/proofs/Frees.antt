@@ -4,22 +4,19 @@ use mathlib.Core.Bool.{Bool, true, false, not}
 use mathlib.Core.List.{List, map}
 use Prim.Native.Nat.{ℕ, _+_, _*_, _≤_, _<_}
 use native.Mathlib.Omega.{arith}
-use native.Mathlib.Numerals.{add-one}
-use lib.ListN.{length, getD, set}
+use lib.ListN.{length, getD}
 use borrow.Author.Tests.{eq-eqb, ne-eqb}
-use Rattle.rules.specs.Lists.{Bytes, if_then_else_}
+use Rattle.rules.specs.Lists.{Bytes}
 use Rattle.rules.specs.State as R
 use Rattle.rules.specs.Commits as C
-use Rattle.rules.specs.Replay.{not-pending}
 use Rattle.rules.proofs.Events.{start-release}
 use Rattle.outbox.specs.declared.Unacked.{Unacked}
 use Rattle.outbox.specs.View.{unackedOf, unacked, blankU, lenU}
-use Rattle.outbox.specs.Records.{releasesU, releasedU, releaseU, notPendingU}
+use Rattle.outbox.specs.Records.{releasesU, releasedU, releaseU}
 use Rattle.outbox.specs.Sound.{soundOutbox}
-use Rattle.outbox.specs.Steps.{SentIf}
 use Rattle.outbox.proofs.Flags.{release-flags}
 use Rattle.outbox.proofs.Listings.{Listing, listing-none, listing-next, listing-fits, listing-all, listed-starts}
-use Rattle.outbox.proofs.View.{SoundU, sound-facts}
+use Rattle.outbox.proofs.View.{sound-facts}
 use Rattle.parts.specs.Seats.{seats}
 use Rattle.parts.specs.Parts.{at, flag, unackedAt, outboxIn}
 use Rattle.parts.specs.Frames.{Past}

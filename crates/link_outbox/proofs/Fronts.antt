@@ -2,12 +2,11 @@
 use mathlib.Core.Path.{_≡_, refl, sym, ap, _∙_, subst}
 use mathlib.Core.Bool.{Bool, true, false}
 use mathlib.Core.List.{List, [], _∷_, _++_, append-nil}
-use mathlib.Core.Logic.{⊎-elim}
 use Prim.Native.Nat.{ℕ, suc, _+_, _-_, _≤_, _<_}
 use native.Mathlib.Omega.{arith}
-use native.Mathlib.Nat.{eq-or-lt-of-le, zero-add}
-use lib.ListN.{length, take, drop, set, replicate, length-append, length-take, length-drop, length-set, take-append-drop}
-use lib.Seq.{slice, getD-set-same, getD-set-other, getD-drop, set-getD, take-take}
+use native.Mathlib.Nat.{zero-add}
+use lib.ListN.{length, take, drop, set, replicate, length-append, length-take, length-drop, take-append-drop}
+use lib.Seq.{slice, getD-drop, set-getD, take-take}
 use lib.Dec.{leb}
 use borrow.Author.Tests.{le-leb, lt-leb, leb-false}
 use Rattle.stores.specs.Packed.{cut}

@@ -4,7 +4,7 @@ use mathlib.Core.Bool.{Bool, true, false}
 use mathlib.Core.List.{List, map}
 use Prim.Native.Nat.{ℕ, _+_, _≤_, _<_}
 use native.Mathlib.Omega.{arith}
-use lib.ListN.{length, take, getD, set, length-set}
+use lib.ListN.{length, getD, set, length-set}
 use lib.Seq.{getD-set-same, getD-set-other}
 use lib.Dec.{eqb}
 use borrow.Author.Tests.{eqb-true, eqb-false}
@@ -12,7 +12,7 @@ use Rattle.stores.specs.Packed.{cut}
 use Rattle.rules.specs.Lists.{total}
 use Rattle.rules.specs.State as R
 use Rattle.outbox.specs.declared.Unacked.{Unacked}
-use Rattle.outbox.specs.View.{lenU, unacked, usedU, unackedOf, endU, blankU}
+use Rattle.outbox.specs.View.{lenU, unacked, usedU, unackedOf, endU}
 use Rattle.outbox.specs.Steps.{Flagged}
 use Rattle.outbox.proofs.Flags.{Flags, total-flags, cut-flags}
 use Rattle.parts.specs.Seats.{seats}

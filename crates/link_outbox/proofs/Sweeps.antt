@@ -1,16 +1,15 @@
 -- A sweep over records that lie in halves and bytes: a turn, and its end. Assumes nothing.
-use mathlib.Core.Path.{_≡_, refl, sym, ap, _∙_, subst}
-use mathlib.Core.Bool.{Bool, true, false, _||_}
+use mathlib.Core.Path.{_≡_, sym, ap, _∙_, subst}
+use mathlib.Core.Bool.{Bool}
 use mathlib.Core.List.{List}
 use Prim.Native.Nat.{ℕ, _+_, _-_, _≤_, _<_}
 use native.Mathlib.Omega.{arith}
-use lib.ListN.{length, take, drop, getD, set, replicate, length-set}
+use lib.ListN.{length, take, drop, getD, set, replicate}
 use lib.Seq.{getD-set-same, getD-set-other}
 use Rattle.stores.specs.Placed.{placed}
 use Rattle.rules.specs.Lists.{Bytes, if_then_else_, kept}
 use Rattle.rules.specs.Acks.{survives}
 use Rattle.outbox.specs.declared.Unacked.{Unacked}
-use Rattle.outbox.specs.declared.Outbox.{Outbox}
 use Rattle.outbox.specs.View.{lenU, unackedOf, blankU, ExactOutbox}
 use Rattle.outbox.specs.Records.{survivesU}
 use Rattle.outbox.specs.Steps.{Left}
@@ -18,11 +17,11 @@ use Rattle.outbox.specs.Sweeps.{Sweep, Lowers}
 use Rattle.outbox.proofs.Sweeps.{Turns, turned, swept, reach, starts, finished}
 use Rattle.outbox.proofs.View.{exact-count}
 use Rattle.parts.specs.Seats.{seats}
-use Rattle.parts.specs.Parts.{at, flag, unackedAt, outboxIn}
+use Rattle.parts.specs.Parts.{at, unackedAt, outboxIn}
 use Rattle.parts.specs.Frames.{Past}
-use Rattle.parts.proofs.Seats.{length-seats, getD-seats}
+use Rattle.parts.proofs.Seats.{getD-seats}
 use Rattle.link_outbox.specs.Steps.{Drops}
-use Rattle.link_outbox.proofs.Records.{past-same, past-set, twice, written}
+use Rattle.link_outbox.proofs.Records.{past-same, past-set, written}
 
 -- the sweep over the records of h and b
 abbrev pub sweepIn : List ℕ → List ℕ → ℕ → ℕ → ℕ → ℕ → Sweep

@@ -1,6 +1,6 @@
 -- The contracts of the functions that change the unacked messages where they lie: w, h, b are the words, halves and bytes before, and w′, h′, b′ after.
 -- Assumes nothing.
-use Prim.Native.Nat.{ℕ, _+_, _≤_, _<_}
+use Prim.Native.Nat.{ℕ, _+_, _<_}
 use mathlib.Core.Path.{_≡_}
 use mathlib.Core.Bool.{Bool}
 use mathlib.Core.List.{List}

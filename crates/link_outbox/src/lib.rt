@@ -1,10 +1,10 @@
 // The unacked messages of a session that C lends, worked on where they lie. Numbers and pending flags start at index 0 of their parts.
 ghost use mathlib.Core.Path.{_≡_};
-ghost use mathlib.Core.Bool.{Bool, true, false, not, _&&_, _||_};
+ghost use mathlib.Core.Bool.{true, false, not, _&&_, _||_};
 ghost use lib.Dec.{eqb, leb, ltb};
-ghost use mathlib.Core.List.{List, _∷_, []};
+ghost use mathlib.Core.List.{List};
 ghost use Prim.Native.Nat.{ℕ, _+_, _*_, _≤_, _<_};
-ghost use lib.ListN.{length, take, drop, set};
+ghost use lib.ListN.{length, take};
 ghost use lib.Seq.{slice};
 ghost use Rattle.rules.specs.Lists.{if_then_else_, total};
 ghost use Rattle.outbox.specs.Sweeps.{Lowers};

@@ -135,7 +135,7 @@ fn receive_again(
 {
     parts::full_words(words);
     parts::full_bytes(bytes);
-    let c = link_codes::reading::clock_in(halves, clock);
+    let c = link_codes::clock_in(halves, clock);
     if number <= words[parts::RELEASED] {
         events::emit(list, 0, 10, number, 0, 0);
         let n = events::request(c, list, 1);
@@ -234,7 +234,7 @@ fn enqueue(
 {
     parts::full_words(words);
     parts::full_bytes(bytes);
-    let c = link_codes::reading::clock_in(halves, clock);
+    let c = link_codes::clock_in(halves, clock);
     if link_queue::find(words, number) {
         let n = events::request(c, list, 0);
         return link_draining::carry(

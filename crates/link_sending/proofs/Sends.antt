@@ -18,7 +18,6 @@ use Rattle.events.specs.declared.Stop.the-variants.{No, By}
 use Rattle.outbox.specs.View.{lenU, endU, ExactOutbox}
 use Rattle.peer_session.specs.Allocates.{Allocates}
 use Rattle.events.specs.Written.{Listed, asked}
-use Rattle.peer_session.specs.declared.SessionState.{SessionState}
 use Rattle.peer_session.specs.Sound.{soundOf, Full}
 use Rattle.session.specs.Promise.{CalledWithOutbound}
 use Rattle.peer_session.proofs.View as View
@@ -28,7 +27,6 @@ use Rattle.parts.specs.Codes.{answerOf}
 use Rattle.parts.specs.Seats.{seats}
 use Rattle.parts.proofs.Seats.{take-seats}
 use Rattle.parts.specs.Parts.{Parts, parts, at, unackedAt, outboxIn, waitingIn, retryIn, clockIn, handoffIn, openedOf}
-use Rattle.parts.specs.Frames.{Past}
 use Rattle.parts.specs.Driven.{Driven}
 use Rattle.parts.proofs.Fields.{Agree, agree-past, agree-set, agree-then, outbox-same, numbers-same, handoff-same}
 use Rattle.parts.proofs.After.{Kept, other, after, agree-all}

@@ -1,5 +1,4 @@
 // A send on the parts of a session, in place: the driver's send on the session that they are.
-ghost use mathlib.Core.Path.{_≡_};
 ghost use lib.ListN.{length};
 ghost use Rattle.rules.specs.Calls.{sends};
 ghost use Rattle.outbox.specs.View.{ExactOutbox};
@@ -82,7 +81,7 @@ fn goes(
         Stop::By(x) => link_codes::refusal(x),
         Stop::No => {
             halves[parts::GENERATION] = generation + 1;
-            let k = link_codes::reading::clock_in(halves, clock);
+            let k = link_codes::clock_in(halves, clock);
             let n = events::request(k, list, 0);
             link_codes::plain(1, number, n)
         }

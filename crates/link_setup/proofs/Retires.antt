@@ -13,16 +13,13 @@ use Rattle.rules.specs.declared.Answer.the-variants.{Flag, Refused}
 use Rattle.rules.specs.declared.Refusal.the-variants.{ShortBuffer, BadRecord}
 use Rattle.rules.specs.declared.Setup.the-variants.{Retired}
 use Rattle.rules.specs.Lists.{Bytes, total, packed}
-use Rattle.rules.specs.Buffers.{repacked}
 use Rattle.rules.specs.Calls.{retires}
 use Rattle.stores.specs.Placed.{placed}
 use Rattle.stores.specs.Packed.{cut}
 use Rattle.stores.proofs.Laws.{length-placed}
 use Rattle.stores.proofs.Packs.{repacked-shrunk}
-use Rattle.outbox.specs.declared.Unacked.{Unacked}
 use Rattle.outbox.specs.declared.Outbox.{Outbox}
 use Rattle.outbox.specs.View.{endU, ExactOutbox}
-use Rattle.outbox.specs.Steps.{Left}
 use Rattle.outbox.proofs.Appends.{discarded}
 use Rattle.queue.specs.declared.Queue.{Queue}
 use Rattle.queue.specs.View.{endQ, framesOf, ExactQueue, Repacked}
@@ -43,7 +40,6 @@ use Rattle.parts.proofs.Seats.{length-seats}
 use Rattle.parts.proofs.Opened.{opened-as}
 use Rattle.parts.proofs.After.{agree-all}
 use Rattle.parts.proofs.Drives.{changes, refuses}
-use Rattle.link_outbox.specs.Tests.{Bounded}
 use Rattle.link_queue.specs.Steps.{bodies, Summing}
 use Rattle.link_queue.proofs.Sums.{end-bodies}
 use Rattle.link_sound.proofs.Parts.{usable}

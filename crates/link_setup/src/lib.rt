@@ -3,11 +3,10 @@ ghost use mathlib.Core.Path.{_≡_};
 ghost use mathlib.Core.Bool.{true, _&&_};
 ghost use lib.Dec.{eqb};
 ghost use lib.ListN.{length};
-ghost use Rattle.rules.specs.Answers.{flag-value};
 ghost use Rattle.rules.specs.Calls.{accepts, rejects, prepares-channel, retires};
 ghost use Rattle.outbox.specs.View.{ExactOutbox};
 ghost use Rattle.session.specs.Promise.{CalledWithOutbound, CalledWithOutboundAlone, CalledWithStoresAlone, CalledAlone};
-ghost use Rattle.parts.specs.Parts.{parts, outboxIn, rejectIn};
+ghost use Rattle.parts.specs.Parts.{parts, outboxIn};
 ghost use Rattle.parts.specs.Driven.{Driven};
 ghost use Rattle.link_setup.specs.Steps.{Stages, Accepting, AcceptEnters, Rejecting, RejectEnters, Retiring, RetiresIn, ForgetsIn};
 use events::Stop;
@@ -15,21 +14,11 @@ use parts::Bytes;
 use parts::Halves;
 use parts::LinkAnswer;
 use parts::Words;
-use peer_session::RejectBody;
 use peer_session::SessionState;
 use rules::Refusal;
 use rules::Terms;
 
 // ---- the stage
-
-fn flag_byte(b: bool) -> u8
-    ensures { λ r. ⌜ r ≡ flag-value b ⌝ }
-{
-    if b {
-        return 1;
-    }
-    0
-}
 
 // Another disposition, and the setup of another code.
 pub fn stage(halves: &mut Halves, bytes: &mut Bytes, disposition: u8, setup: u8, terms: Terms)
@@ -38,7 +27,7 @@ pub fn stage(halves: &mut Halves, bytes: &mut Bytes, disposition: u8, setup: u8,
     halves[parts::TERMS] = terms.number;
     bytes[parts::DISPOSITION] = disposition;
     bytes[parts::SETUP] = setup;
-    bytes[parts::INITIATOR] = flag_byte(terms.initiator);
+    bytes[parts::INITIATOR] = link_codes::flag_byte(terms.initiator);
 }
 
 // ---- a channel
@@ -198,13 +187,6 @@ fn reject_enters(
     Stop::No
 }
 
-// The reject body, which lies among the bytes that a message that joins changes.
-fn reject_body(words: &Words, bytes: &Bytes) -> RejectBody
-    ensures { λ r. ⌜ r ≡ rejectIn (now (words .entry)) (now (bytes .entry)) ⌝ }
-{
-    link_codes::reading::reject_in(words, bytes)
-}
-
 // The session's reject body is sent.
 fn send_reject(
     words: &mut Words,
@@ -219,7 +201,7 @@ fn send_reject(
 {
     parts::full_halves(halves);
     let generation = halves[parts::GENERATION];
-    let j = reject_body(words, bytes);
+    let j = link_codes::reject_in(words, bytes);
     let body = j.bytes;
     let len = j.len;
     let stop = link_sending::allocate(words, halves, bytes, outbound, &body[..len]);
@@ -228,7 +210,7 @@ fn send_reject(
         Stop::No => {
             halves[parts::GENERATION] = generation + 1;
             bytes[parts::DISPOSITION] = 4;
-            let k = link_codes::reading::clock_in(halves, clock);
+            let k = link_codes::clock_in(halves, clock);
             let n = events::request(k, list, 0);
             link_codes::plain(0, 0, n)
         }

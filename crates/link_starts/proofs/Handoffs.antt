@@ -1,13 +1,12 @@
 -- The handoff of a restore, where it lies. Assumes nothing.
 use Prim.Native.Nat.{ℕ, _+_, _≤_, _<_}
 use mathlib.Core.Path.{_≡_, refl, sym, ap, _∙_, subst}
-use mathlib.Core.Bool.{Bool, true, false, not, true≢false}
-use mathlib.Core.List.{List, [], _∷_, _++_}
-use mathlib.Core.Option.{Option, none, some}
+use mathlib.Core.Bool.{Bool, true, false, true≢false}
+use mathlib.Core.List.{List, [], _∷_}
+use mathlib.Core.Option.{none, some}
 use native.Mathlib.Omega.{arith}
-use lib.Dec.{eqb}
-use lib.ListN.{length, take, drop, set, length-set, length-take, length-drop}
-use lib.Seq.{getD-set-same, getD-set-other, getD-take, getD-drop, take-take, take-at, take-set-le, drop-set-lt}
+use lib.ListN.{length, take, drop, set, length-set}
+use lib.Seq.{getD-set-same, getD-set-other, getD-take, getD-drop, take-take, take-at, drop-set-lt}
 use borrow.Author.Tests.{eq-eqb, ne-eqb}
 use Rattle.rules.specs.Lists.{Bytes, if_then_else_, same}
 use Rattle.rules.specs.Answers.{flag-value}
@@ -17,12 +16,12 @@ use Rattle.stores.proofs.Laws.{length-placed, take-placed-le, drop-placed, drop
 use Rattle.peer_session.specs.View.{handoffOf, handoff-length}
 use Rattle.restores.specs.declared.Handoff.{Handoff}
 use Rattle.restores.specs.Restored.{givenIn, handoffGiven}
-use Rattle.restores.specs.Steps.{heldIn, Handed}
+use Rattle.restores.specs.Steps.{heldIn}
 use Rattle.parts.specs.Parts.{at, flag, section, handoffIn}
 use Rattle.parts.proofs.Fields.{length-section}
-use Rattle.link_codes.specs.Stored.{Filled}
-use Rattle.link_codes.proofs.Filling.{puts, puts-filled}
-use Rattle.link_starts.specs.Steps.{Between, HandedIn}
+use Rattle.link_starts.specs.Filled.{Filled}
+use Rattle.link_starts.proofs.Filling.{puts, puts-filled}
+use Rattle.link_starts.specs.Steps.{HandedIn}
 
 -- what a comparison of the held body tells
 pub body-told : (n : ℕ) (b body : Bytes) {l : Bytes} {r : Bool} → n ≤ 4096 → l ≡ take n (drop 776 b) → r ≡ same l body → same (take n (section 776 4096 b)) body ≡ r

@@ -1,8 +1,8 @@
 -- The messages of a record, written where they lie. Assumes nothing.
 use Prim.Native.Nat.{ℕ, _+_, _≤_, _<_}
-use mathlib.Core.Path.{_≡_, refl, sym, ap, _∙_, subst}
-use mathlib.Core.Bool.{true, false}
-use mathlib.Core.List.{List, _++_}
+use mathlib.Core.Path.{_≡_, sym, ap, _∙_, subst}
+use mathlib.Core.Bool.{false}
+use mathlib.Core.List.{List}
 use native.Mathlib.Omega.{arith}
 use lib.ListN.{length, take, getD, set, length-set}
 use lib.Seq.{getD-set-same, getD-set-other}
@@ -19,8 +19,7 @@ use Rattle.parts.specs.Seats.{seats}
 use Rattle.parts.specs.Parts.{at, unackedAt, outboxIn}
 use Rattle.parts.specs.Frames.{Past}
 use Rattle.parts.proofs.Seats.{length-seats, seats-same, take-seats}
-use Rattle.parts.proofs.Fields.{agree-past, agree-set, agree-then, outbox-same}
-use Rattle.link_outbox.proofs.Records.{past-same, past-set, twice, twice-past, written}
+use Rattle.link_outbox.proofs.Records.{past-same, past-set, twice-past, written}
 use Rattle.link_starts.specs.Steps.{Written, TakenIn}
 
 -- ---- record by record

@@ -22,7 +22,6 @@ use Rattle.peer_session.specs.declared.SessionState.{SessionState}
 use Rattle.peer_session.specs.View.{handoffOf, handoff-length}
 use Rattle.peer_session.specs.Sound.{soundOf, Full}
 use Rattle.session.specs.declared.Returned.{Returned}
-use Rattle.session.specs.Promise.{Turned}
 use Rattle.starts.specs.declared.Reliable.{Reliable}
 use Rattle.starts.specs.Started.{short-record}
 use Rattle.starts.specs.Records.{reliableOf}
@@ -35,8 +34,7 @@ use Rattle.restores.proofs.Restores as R
 use Rattle.parts.specs.declared.LinkAnswer.{LinkAnswer}
 use Rattle.parts.specs.declared.StageCodes.{StageCodes}
 use Rattle.parts.specs.Codes.{answerOf, good-codes, good-stage, bad-stage, stageOf}
-use Rattle.parts.specs.Parts.{Parts, parts, at, outboxIn, queueIn, waitingIn, retryIn, clockIn, codesIn, handoffIn, policyIn, rejectIn, openedOf}
-use Rattle.parts.specs.Frames.{Past}
+use Rattle.parts.specs.Parts.{Parts, parts, at, outboxIn, codesIn, handoffIn, openedOf}
 use Rattle.parts.specs.Driven.{Driven}
 use Rattle.parts.proofs.Fields.{Agree, agree-past, outbox-same, queue-same, numbers-same, clock-same, handoff-same, policy-same, reject-same}
 use Rattle.parts.proofs.After.{agree-all}

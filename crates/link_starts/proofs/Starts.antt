@@ -1,12 +1,12 @@
 -- A start on the parts of a session, by what it writes of them. Assumes nothing.
 use Prim.Native.Nat.{ℕ, _+_, _-_, _≤_, _<_}
 use mathlib.Core.Path.{_≡_, refl, sym, ap, _∙_, subst}
-use mathlib.Core.Bool.{Bool, true, false, true≢false}
-use mathlib.Core.List.{List, [], _∷_, _++_}
+use mathlib.Core.Bool.{false, true≢false}
+use mathlib.Core.List.{List, [], _∷_}
 use native.Mathlib.Omega.{arith}
 use lib.IntN.{pos}
 use lib.Ieee.{Float, fin}
-use lib.ListN.{length, take, drop, set, replicate}
+use lib.ListN.{length, take, drop, replicate}
 use lib.Seq.{take-take, take-at}
 use Rattle.rules.specs.declared.Answer.the-variants.{Done, Refused}
 use Rattle.rules.specs.declared.Policy.{Policy}
@@ -24,25 +24,23 @@ use Rattle.stores.proofs.Laws.{length-placed, drop-placed}
 use Rattle.outbox.specs.declared.Outbox.{Outbox}
 use Rattle.peer_session.specs.declared.SessionState.{SessionState}
 use Rattle.peer_session.specs.New.{New}
-use Rattle.session.specs.declared.Returned.{Returned}
 use Rattle.starts.specs.declared.Reliable.{Reliable}
 use Rattle.starts.specs.declared.Verdict.{Verdict}
 use Rattle.starts.specs.declared.Verdict.the-variants as Verdicts
 use Rattle.starts.specs.Started.{short-record, Started}
-use Rattle.starts.specs.Records.{reliableOf, Recorded, Rejecting, Beginning, Begun, verdictOf, NotStarted}
+use Rattle.starts.specs.Records.{reliableOf, Recorded, Rejecting, Beginning, Begun, verdictOf}
 use Rattle.starts.proofs.Messages.{Long, long-record}
 use Rattle.starts.proofs.Checks.{Good, found-good, good-beginning}
 use Rattle.starts.proofs.Begins as Plain
 use Rattle.parts.specs.declared.LinkAnswer.{LinkAnswer}
-use Rattle.parts.specs.declared.StageCodes.{StageCodes}
 use Rattle.parts.specs.Codes.{answerOf, stageOf}
-use Rattle.parts.specs.Parts.{Parts, parts, at, flag, section, unackedAt, outboxIn, queuedAt, clockIn, codesIn, rejectIn, openedOf}
+use Rattle.parts.specs.Parts.{Parts, parts, at, flag, section, outboxIn, queuedAt, clockIn, codesIn, rejectIn, openedOf}
 use Rattle.parts.specs.Driven.{DrivenStart}
 use Rattle.parts.proofs.Seats.{length-seats}
-use Rattle.parts.proofs.Fields.{Agree, length-section, section-same, outbox-same}
+use Rattle.parts.proofs.Fields.{length-section, section-same, outbox-same}
 use Rattle.parts.proofs.After.{agree-all}
-use Rattle.link_codes.specs.Stored.{Filled}
-use Rattle.link_codes.proofs.Filling.{puts, puts-filled}
+use Rattle.link_starts.specs.Filled.{Filled}
+use Rattle.link_starts.proofs.Filling.{puts, puts-filled}
 use Rattle.link_starts.specs.Steps.{Written}
 use Rattle.link_starts.specs.Starts.{Judged, NotGood, FoundStart, head, middle, BodyIn}
 use Rattle.link_starts.proofs.Messages.{recorded-in}

@@ -1,4 +1,5 @@
 -- What the contracts of `link_starts` cite.
+pub mod Filled
 pub mod Steps
 pub mod Restores
 pub mod Starts

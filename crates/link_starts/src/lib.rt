@@ -1,21 +1,20 @@
 // A start and a restore on the parts of a session, in place: what they change is written where it lies.
 ghost use mathlib.Core.Path.{_≡_};
 ghost use mathlib.Core.List.{_∷_, []};
-ghost use Prim.Native.Nat.{ℕ, _≤_};
+ghost use Prim.Native.Nat.{_≤_};
 ghost use lib.ListN.{length};
 ghost use Rattle.rules.specs.Start.{handoff-size, same-handoff, agrees};
-ghost use Rattle.rules.specs.Answers.{flag-value};
 ghost use Rattle.peer_session.specs.View.{handoffOf, handoff-length};
 ghost use Rattle.starts.specs.Started.{Started};
 ghost use Rattle.starts.specs.Records.{Fitting, Beginning, Begun};
 ghost use Rattle.restores.specs.Restored.{givenIn, handoffGiven, Restored};
 ghost use Rattle.restores.specs.Steps.{heldIn};
 ghost use Rattle.parts.specs.Parts.{parts, at, handoffIn, openedOf};
-ghost use Rattle.link_codes.specs.Stored.{Filled};
+ghost use Rattle.link_starts.specs.Filled.{Filled};
 ghost use Rattle.parts.specs.Driven.{Driven, DrivenStart};
 ghost use Rattle.link_starts.specs.Steps.{Written, TakingIn, TakenIn, HandedIn};
 ghost use Rattle.link_starts.specs.Restores.{Ready, Enters};
-ghost use Rattle.link_starts.specs.Starts.{head, middle, Judged, FoundStart, BodyIn};
+ghost use Rattle.link_starts.specs.Starts.{head, Judged, FoundStart, BodyIn};
 use events::Stop;
 use parts::Bytes;
 use parts::Halves;
@@ -27,13 +26,6 @@ use rules::Policy;
 use rules::Refusal;
 use starts::Reliable;
 use starts::Verdict;
-
-// An array that is lent has its length.
-fn full_halves(halves: &Halves)
-    ensures { λ _. ⌜ length (now (halves .entry)) ≡ 772 ⌝ }
-{
-    let s: &[u32] = halves;
-}
 
 // ---- the messages of a record
 
@@ -69,7 +61,7 @@ fn take(
     ensures { λ _. ⌜ TakenIn «record» (now (numbers .entry)) (now (lengths .entry)) (now (bodies .entry)) (now (words .entry)) (now (halves .entry)) (now (bytes .entry)) (now (outbound .entry)) (now (words .exit)) (now (halves .exit)) (now (bytes .exit)) (now (outbound .exit)) ⌝ }
 {
     link_sound::sized(words, bytes);
-    full_halves(halves);
+    parts::full_halves(halves);
     let end = link_outbox::used(halves, words[parts::UNACKED] as usize);
     let n = starts::body_bytes(lengths, numbers.len());
     restores::repack(outbound, bodies, n, end);
@@ -122,15 +114,6 @@ fn agrees(words: &Words, bytes: &Bytes, given: Handoff, body: &[u8]) -> bool
     same_handoff(words, bytes, given, body)
 }
 
-fn flag_byte(b: bool) -> u8
-    ensures { λ r. ⌜ r ≡ flag-value b ⌝ }
-{
-    if b {
-        return 1;
-    }
-    0
-}
-
 // The handoff given, with a copy of its body.
 pub fn hand(words: &mut Words, bytes: &mut Bytes, given: Handoff, body: &[u8])
     requires { ⌜ handoff-size (handoffGiven given (now body)) ≤ 4096 ⌝ }
@@ -141,8 +124,8 @@ pub fn hand(words: &mut Words, bytes: &mut Bytes, given: Handoff, body: &[u8])
         bytes[parts::HANDOFF_PRESENT] = 0;
         return;
     }
-    let sent = flag_byte(given.sent);
-    let acknowledged = flag_byte(given.acknowledged);
+    let sent = link_codes::flag_byte(given.sent);
+    let acknowledged = link_codes::flag_byte(given.acknowledged);
     stores::copy_in(bytes, parts::HANDOFF_BODY, body);
     bytes[parts::HANDOFF_SENT] = sent;
     bytes[parts::HANDOFF_ACKNOWLEDGED] = acknowledged;
@@ -329,7 +312,7 @@ fn put_head(words: &mut Words, record: Reliable, count: usize, policy: Policy, r
 fn put_tail(halves: &mut Halves)
     ensures { λ _. ⌜ Filled 768 4 (at (0 ∷ 0 ∷ 0 ∷ 0 ∷ [])) (now (halves .entry)) (now (halves .exit)) ⌝ }
 {
-    full_halves(halves);
+    parts::full_halves(halves);
     halves[parts::GENERATION] = 0;
     halves[parts::RELEASED_GENERATION] = 0;
     halves[parts::PERSISTED_GENERATION] = 0;
@@ -368,7 +351,7 @@ fn begin(
     ensures { λ _. ⌜ Begun «record» (now (numbers .entry)) (now (lengths .entry)) policy (now (reject .entry)) (openedOf (parts (now (words .exit)) (now (halves .exit)) (now (bytes .exit)) (now (clock .exit)))) ⌝ }
 {
     link_sound::sized(words, bytes);
-    full_halves(halves);
+    parts::full_halves(halves);
     records(halves, bytes, numbers, lengths);
     put_head(words, record, numbers.len(), policy, reject.len());
     put_tail(halves);

@@ -1,4 +1,4 @@
--- Enums as numbers, and back. Assumes nothing.
+-- Enums as numbers: a stage out of its codes, and an answer as numbers. Assumes nothing.
 use Prim.Native.Nat.{ℕ}
 use mathlib.Core.Bool.{Bool, true, false, not, _&&_}
 use lib.Dec.{eqb, leb}
@@ -7,8 +7,7 @@ use Rattle.rules.specs.declared.Answer.the-variants.{Done, Number, Flag, Prepar
 use Rattle.rules.specs.declared.Terms.{Terms}
 use Rattle.rules.specs.declared.Setup.{Setup}
 use Rattle.rules.specs.declared.Setup.the-variants as Setups
-use Rattle.rules.specs.declared.ReceiveMode.{ReceiveMode}
-use Rattle.rules.specs.declared.ReceiveMode.the-variants.{Raw, Proposal, Channel, Rejection, Retiring}
+use Rattle.rules.specs.declared.ReceiveMode.the-variants.{Raw}
 use Rattle.rules.specs.Lists.{if_then_else_}
 use Rattle.rules.specs.Receiving.{mode-of}
 use Rattle.rules.specs.Answers.{refusal-number, flag-value}
@@ -22,7 +21,7 @@ use Rattle.parts.specs.declared.LinkAnswer.{LinkAnswer}
 abbrev pub plain-terms : StageCodes → Bool
 plain-terms g = if eqb (g .setup) 1 then true else not (g .initiator) && eqb (g .terms) 0
 
--- the codes that sessions close to
+-- the codes that calls leave
 abbrev pub good-codes : StageCodes → Bool
 good-codes g = leb (g .setup) 3 && (leb (g .mode) 4 && plain-terms g)
 
@@ -48,44 +47,6 @@ good-stage g =
 
 abbrev pub stageOf : StageCodes → Stage
 stageOf g = if good-codes g then good-stage g else bad-stage g
-
--- ---- enums to codes
-
-abbrev pub setup-code : Setup → ℕ
-setup-code Setups.None = 0
-setup-code (Setups.Waiting t) = 1
-setup-code Setups.Started = 2
-setup-code Setups.Retired = 3
-
-abbrev pub terms-number : Setup → ℕ
-terms-number Setups.None = 0
-terms-number (Setups.Waiting t) = t .number
-terms-number Setups.Started = 0
-terms-number Setups.Retired = 0
-
-abbrev pub terms-initiator : Setup → Bool
-terms-initiator Setups.None = false
-terms-initiator (Setups.Waiting t) = t .initiator
-terms-initiator Setups.Started = false
-terms-initiator Setups.Retired = false
-
-abbrev pub mode-code : ReceiveMode → ℕ
-mode-code Raw = 0
-mode-code Proposal = 1
-mode-code Channel = 2
-mode-code Rejection = 3
-mode-code Retiring = 4
-
-abbrev pub stage-codes : Stage → StageCodes
-stage-codes g =
-    record {
-      terms = terms-number (g .setup);
-      disposition = g .disposition;
-      setup = setup-code (g .setup);
-      initiator = terms-initiator (g .setup);
-      mode = mode-code (g .mode);
-      failed = g .failed;
-    }
 
 -- ---- answers
 

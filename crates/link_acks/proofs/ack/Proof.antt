@@ -4,13 +4,6 @@ use mathlib.Core.Path.{sym, _∙_}
 use borrow.Author.Needs.{needs}
 use Rattle.link_acks.proofs.ack.Statement.{statement}
 use Rattle.link_acks.proofs.ack.Tie as tie
-use Rattle.link_acks.proofs.ack.Reads as reads
-use Rattle.link_acks.proofs.ack.Lts as lts
-use Rattle.link_acks.proofs.ack_enters.Reads as ack-enters-reads
-use Rattle.link_acks.proofs.acknowledged.Reads as acknowledged-reads
-use Rattle.link_acks.proofs.beyond.Reads as beyond-reads
-use Rattle.link_acks.proofs.out_of_range.Reads as out-of-range-reads
-use Rattle.link_codes.proofs.refusal.Reads as refusal-reads
 
 -- src/lib.rt:311:9
 ack-enters-requires : tie.Need-ack-enters-requires

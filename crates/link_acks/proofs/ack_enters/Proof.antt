@@ -4,10 +4,6 @@ use Rattle.link_acks.proofs.Acks.{short-list, short-outbound, short-que
 use borrow.Author.Needs.{needs}
 use Rattle.link_acks.proofs.ack_enters.Statement.{statement}
 use Rattle.link_acks.proofs.ack_enters.Tie as tie
-use Rattle.link_acks.proofs.ack_enters.Reads as reads
-use Rattle.link_acks.proofs.ack_enters.Lts as lts
-use Rattle.parts.proofs.full_halves.Reads as full-halves-reads
-use Rattle.link_sound.proofs.sound.Reads as sound-reads
 
 -- src/lib.rt:176:9
 returns : tie.Need-returns

@@ -4,13 +4,6 @@ use Rattle.link_acks.proofs.Reports.{ack-sent, ack-kept, ack-lost}
 use borrow.Author.Needs.{needs}
 use Rattle.link_acks.proofs.ack_sent.Statement.{statement}
 use Rattle.link_acks.proofs.ack_sent.Tie as tie
-use Rattle.link_acks.proofs.ack_sent.Reads as reads
-use Rattle.link_acks.proofs.ack_sent.Lts as lts
-use Rattle.link_acks.proofs.retries_full.Reads as retries-full-reads
-use Rattle.link_codes.proofs.plain.Reads as plain-reads
-use Rattle.link_codes.proofs.refusal.Reads as refusal-reads
-use Rattle.link_numbers.proofs.put.Reads as put-reads
-use Rattle.link_numbers.proofs.take_out.Reads as take-out-reads
 
 -- src/lib.rt:91:9
 take-out-requires : tie.Need-take-out-requires

@@ -4,16 +4,6 @@ use native.Mathlib.Omega.{arith}
 use borrow.Author.Needs.{needs}
 use Rattle.link_acks.proofs.acknowledged.Statement.{statement}
 use Rattle.link_acks.proofs.acknowledged.Tie as tie
-use Rattle.link_acks.proofs.acknowledged.Reads as reads
-use Rattle.link_acks.proofs.acknowledged.Lts as lts
-use Rattle.acks.proofs.notify_acknowledged.Reads as notify-acknowledged-reads
-use Rattle.events.proofs.request.Reads as request-reads
-use Rattle.link_acks.proofs.complete.Reads as complete-reads
-use Rattle.link_acks.proofs.handoff_flag.Reads as handoff-flag-reads
-use Rattle.link_acks.proofs.raised.Reads as raised-reads
-use Rattle.link_codes.proofs.plain.Reads as plain-reads
-use Rattle.link_codes.proofs.reading.clock_in.Reads as clock-in-reads
-use Rattle.link_outbox.proofs.acknowledge.Reads as acknowledge-reads
 
 -- src/lib.rt:252:18
 element-copy-out-before : tie.Need-element-copy-out-before

@@ -1,10 +1,7 @@
 use Rattle.link_acks.proofs.Acks.{complete-left}
 use Rattle.session.proofs.Queries.{complete-no}
-use borrow.Author.Needs.{needs}
 use Rattle.link_acks.proofs.complete.Statement.{statement}
 use Rattle.link_acks.proofs.complete.Tie as tie
-use Rattle.link_acks.proofs.complete.Reads as reads
-use Rattle.link_acks.proofs.complete.Lts as lts
 
 -- src/lib.rt:234:9
 returns : tie.Need-returns

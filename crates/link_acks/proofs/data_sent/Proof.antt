@@ -5,12 +5,6 @@ use Rattle.link_acks.proofs.Reports.{list-long, messages-sound, other-f
 use borrow.Author.Needs.{needs}
 use Rattle.link_acks.proofs.data_sent.Statement.{statement}
 use Rattle.link_acks.proofs.data_sent.Tie as tie
-use Rattle.link_acks.proofs.data_sent.Reads as reads
-use Rattle.link_acks.proofs.data_sent.Lts as lts
-use Rattle.acks.proofs.own_frame.Reads as own-frame-reads
-use Rattle.events.proofs.emit.Reads as emit-reads
-use Rattle.link_outbox.proofs.mark_sent.Reads as mark-sent-reads
-use Rattle.link_codes.proofs.plain.Reads as plain-reads
 
 -- src/lib.rt:60:9
 element-copy-out-own-frame : tie.Need-element-copy-out-own-frame

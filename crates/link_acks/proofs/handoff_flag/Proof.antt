@@ -2,9 +2,6 @@ use mathlib.Core.Path.{sym, _∙_}
 use borrow.Author.Needs.{needs}
 use Rattle.link_acks.proofs.handoff_flag.Statement.{statement}
 use Rattle.link_acks.proofs.handoff_flag.Tie as tie
-use Rattle.link_acks.proofs.handoff_flag.Reads as reads
-use Rattle.link_acks.proofs.handoff_flag.Lts as lts
-use Rattle.acks.proofs.handoff_acknowledged.Reads as handoff-acknowledged-reads
 
 -- src/lib.rt:232:8
 handoff-acknowledged-requires : tie.Need-handoff-acknowledged-requires

@@ -5,13 +5,6 @@ use Rattle.link_acks.proofs.Keepalives.{told-short, told-unsound, told,
 use borrow.Author.Needs.{needs}
 use Rattle.link_acks.proofs.keepalive.Statement.{statement}
 use Rattle.link_acks.proofs.keepalive.Tie as tie
-use Rattle.link_acks.proofs.keepalive.Reads as reads
-use Rattle.link_acks.proofs.keepalive.Lts as lts
-use Rattle.events.proofs.emit.Reads as emit-reads
-use Rattle.link_sound.proofs.sound.Reads as sound-reads
-use Rattle.link_codes.proofs.plain.Reads as plain-reads
-use Rattle.link_codes.proofs.refusal.Reads as refusal-reads
-use Rattle.link_numbers.proofs.list_all.Reads as list-all-reads
 
 -- src/lib.rt:156:9
 refusal-requires : tie.Need-refusal-requires

@@ -1,11 +1,8 @@
 use Rattle.acks.proofs.Acks.{too-low, too-high, in-range}
 use native.Mathlib.Omega.{arith}
 use mathlib.Core.Path.{sym}
-use borrow.Author.Needs.{needs}
 use Rattle.link_acks.proofs.out_of_range.Statement.{statement}
 use Rattle.link_acks.proofs.out_of_range.Tie as tie
-use Rattle.link_acks.proofs.out_of_range.Reads as reads
-use Rattle.link_acks.proofs.out_of_range.Lts as lts
 
 -- src/lib.rt:200:9
 returns : tie.Need-returns

@@ -2,8 +2,6 @@ use Rattle.link_acks.proofs.Acks.{raised-not, raised-one}
 use borrow.Author.Needs.{needs}
 use Rattle.link_acks.proofs.raised.Statement.{statement}
 use Rattle.link_acks.proofs.raised.Tie as tie
-use Rattle.link_acks.proofs.raised.Reads as reads
-use Rattle.link_acks.proofs.raised.Lts as lts
 
 -- src/lib.rt:223:9
 returns : tie.Need-returns

@@ -3,11 +3,6 @@ use Rattle.link_acks.proofs.Reports.{turned, fits}
 use borrow.Author.Needs.{needs}
 use Rattle.link_acks.proofs.report.Statement.{statement}
 use Rattle.link_acks.proofs.report.Tie as tie
-use Rattle.link_acks.proofs.report.Reads as reads
-use Rattle.link_acks.proofs.report.Lts as lts
-use Rattle.link_acks.proofs.report_enters.Reads as report-enters-reads
-use Rattle.link_acks.proofs.reported.Reads as reported-reads
-use Rattle.link_codes.proofs.refusal.Reads as refusal-reads
 
 -- src/lib.rt:136:9
 report-enters-requires : tie.Need-report-enters-requires

@@ -4,9 +4,6 @@ use Rattle.link_acks.proofs.Reports.{short, bad-code, unsound}
 use borrow.Author.Needs.{needs}
 use Rattle.link_acks.proofs.report_enters.Statement.{statement}
 use Rattle.link_acks.proofs.report_enters.Tie as tie
-use Rattle.link_acks.proofs.report_enters.Reads as reads
-use Rattle.link_acks.proofs.report_enters.Lts as lts
-use Rattle.link_sound.proofs.sound.Reads as sound-reads
 
 -- src/lib.rt:37:9
 returns : tie.Need-returns

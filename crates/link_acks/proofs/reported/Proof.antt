@@ -4,11 +4,6 @@ use Rattle.link_acks.proofs.Reports.{retries, may-retry, of-ack, fit-as
 use borrow.Author.Needs.{needs}
 use Rattle.link_acks.proofs.reported.Statement.{statement}
 use Rattle.link_acks.proofs.reported.Tie as tie
-use Rattle.link_acks.proofs.reported.Reads as reads
-use Rattle.link_acks.proofs.reported.Lts as lts
-use Rattle.link_acks.proofs.ack_sent.Reads as ack-sent-reads
-use Rattle.link_acks.proofs.data_sent.Reads as data-sent-reads
-use Rattle.link_codes.proofs.plain.Reads as plain-reads
 
 -- src/lib.rt:116:13
 data-sent-requires : tie.Need-data-sent-requires

@@ -4,9 +4,6 @@ use Rattle.link_numbers.proofs.Sets.{section-room}
 use borrow.Author.Needs.{needs}
 use Rattle.link_acks.proofs.retries_full.Statement.{statement}
 use Rattle.link_acks.proofs.retries_full.Tie as tie
-use Rattle.link_acks.proofs.retries_full.Reads as reads
-use Rattle.link_acks.proofs.retries_full.Lts as lts
-use Rattle.link_numbers.proofs.has.Reads as has-reads
 
 -- src/lib.rt:78:17
 element-copy-out-count : tie.Need-element-copy-out-count

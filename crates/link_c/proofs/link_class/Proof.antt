@@ -4,10 +4,6 @@ use Rattle.link_c.specs.Forms.{policyOf}
 use borrow.Author.Needs.{needs}
 use Rattle.link_c.proofs.link_class.Statement.{statement}
 use Rattle.link_c.proofs.link_class.Tie as tie
-use Rattle.link_c.proofs.link_class.Reads as reads
-use Rattle.link_c.proofs.link_class.Lts as lts
-use Rattle.link_c.proofs.no_policy.Reads as no-policy-reads
-use Rattle.starts.proofs.link_class.Reads as link-class-reads
 
 -- src/lib.rt:53:9
 link-class-requires : tie.Need-link-class-requires

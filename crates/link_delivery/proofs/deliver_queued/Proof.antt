@@ -8,10 +8,6 @@ use Rattle.delivery.proofs.Queues.{part-size}
 use borrow.Author.Needs.{needs}
 use Rattle.link_delivery.proofs.deliver_queued.Statement.{statement}
 use Rattle.link_delivery.proofs.deliver_queued.Tie as tie
-use Rattle.link_delivery.proofs.deliver_queued.Reads as reads
-use Rattle.link_delivery.proofs.deliver_queued.Lts as lts
-use Rattle.delivery.proofs.deliver.Reads as deliver-reads
-use Rattle.stores.proofs.part.Reads as part-reads
 
 -- src/lib.rt:41:9
 part-requires : tie.Need-part-requires

@@ -9,14 +9,6 @@ use Rattle.link_delivery.proofs.Turns.{TurnsIn, summing, turns-in, ends
 use borrow.Author.Needs.{needs}
 use Rattle.link_delivery.proofs.drain_each.Statement.{statement}
 use Rattle.link_delivery.proofs.drain_each.Tie as tie
-use Rattle.link_delivery.proofs.drain_each.Reads as reads
-use Rattle.link_delivery.proofs.drain_each.Lts as lts
-use Rattle.delivery.proofs.available.Reads as available-reads
-use Rattle.delivery.proofs.deliverable.Reads as deliverable-reads
-use Rattle.link_delivery.proofs.deliver_queued.Reads as deliver-queued-reads
-use Rattle.link_delivery.proofs.leave.Reads as leave-reads
-use Rattle.link_queue.proofs.start.Reads as start-reads
-use Rattle.parts.proofs.size.Reads as size-reads
 
 abbrev Inv-drain : tie.InvT-drain
 Inv-drain words₀ halves bytes from store status list₀ n delivery₀ at s₀ count k₀ i₀ start₀ words list delivery s k i start =

@@ -9,13 +9,6 @@ use Rattle.link_delivery.proofs.RawTurns.{RawTurns, raw-none, raw-next,
 use borrow.Author.Needs.{needs}
 use Rattle.link_delivery.proofs.drain_raw.Statement.{statement}
 use Rattle.link_delivery.proofs.drain_raw.Tie as tie
-use Rattle.link_delivery.proofs.drain_raw.Reads as reads
-use Rattle.link_delivery.proofs.drain_raw.Lts as lts
-use Rattle.link_delivery.proofs.hand_over.Reads as hand-over-reads
-use Rattle.link_delivery.proofs.leave.Reads as leave-reads
-use Rattle.link_delivery.proofs.reach.Reads as reach-reads
-use Rattle.link_queue.proofs.start.Reads as start-reads
-use Rattle.parts.proofs.size.Reads as size-reads
 
 abbrev Inv-drain : tie.InvT-drain
 Inv-drain t words₀ halves bytes from store list₀ n delivery₀ at count persisted generation₀ remote₀ k₀ i₀ start₀ m₀ a₀ words list delivery generation remote k i start m a =

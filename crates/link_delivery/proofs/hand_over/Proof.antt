@@ -6,11 +6,6 @@ use Rattle.link_delivery.proofs.Raw.{handed-asked, handed-plain}
 use borrow.Author.Needs.{needs}
 use Rattle.link_delivery.proofs.hand_over.Statement.{statement}
 use Rattle.link_delivery.proofs.hand_over.Tie as tie
-use Rattle.link_delivery.proofs.hand_over.Reads as reads
-use Rattle.link_delivery.proofs.hand_over.Lts as lts
-use Rattle.events.proofs.emit.Reads as emit-reads
-use Rattle.stores.proofs.copy_in.Reads as copy-in-reads
-use Rattle.stores.proofs.part.Reads as part-reads
 
 -- src/lib.rt:150:9
 part-requires : tie.Need-part-requires

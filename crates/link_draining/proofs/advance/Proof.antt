@@ -3,47 +3,31 @@ use Rattle.link_draining.proofs.Ends.{settling-in}
 use borrow.Author.Needs.{needs}
 use Rattle.link_draining.proofs.advance.Statement.{statement}
 use Rattle.link_draining.proofs.advance.Tie as tie
-use Rattle.link_draining.proofs.advance.Reads as reads
-use Rattle.link_draining.proofs.advance.Lts as lts
-use Rattle.link_draining.proofs.set_clock.Reads as set-clock-reads
-use Rattle.link_draining.proofs.settle.Reads as settle-reads
-use Rattle.parts.proofs.full_bytes.Reads as full-bytes-reads
-use Rattle.parts.proofs.full_halves.Reads as full-halves-reads
-use Rattle.parts.proofs.full_words.Reads as full-words-reads
 
--- src/lib.rt:137:5
 full-words-requires : tie.Need-full-words-requires
 full-words-requires c κs = search needs
 
--- src/lib.rt:138:5
 full-halves-requires : tie.Need-full-halves-requires
 full-halves-requires c κs = search needs
 
--- src/lib.rt:139:5
 full-bytes-requires : tie.Need-full-bytes-requires
 full-bytes-requires c κs = search needs
 
--- src/lib.rt:140:5
 settle-requires : tie.Need-settle-requires
 settle-requires c κs = settling-in (c .before .before .before .before .before .before .before .before .before .before .before .args .words .now) (c .before .before .before .before .before .before .before .before .before .before .before .args .halves .now) (c .before .before .before .before .before .before .before .before .before .before .before .args .bytes .now) (c .before .before .before .before .before .before .before .before .before .before .before .args .clock .now) (c .before .before .before .before .before .before .before .before .before .before .before .pre .0)
 
--- src/lib.rt:141:5
 element-write-words : tie.Need-element-write-words
 element-write-words c = search needs
 
--- src/lib.rt:142:5
 element-write-bytes : tie.Need-element-write-bytes
 element-write-bytes c = search needs
 
--- src/lib.rt:144:5
 set-clock-requires : tie.Need-set-clock-requires
 set-clock-requires c κs = search needs
 
--- src/lib.rt:126:1
 same-length : tie.Need-same-length
 same-length c = search needs
 
--- src/lib.rt:126:1
 returns : tie.Need-returns
 returns c = advances-in (c .before .before .before .before .before .before .before .before .before .before .before .before .before .before .before .before .before .before .args .t) (c .before .before .before .before .before .before .before .before .before .before .before .before .before .before .before .before .before .before .args .words .now) (c .before .before .before .before .before .before .before .before .before .before .before .before .before .before .before .before .before .before .args .halves .now) (c .before .before .before .before .before .before .before .before .before .before .before .before .before .before .before .before .before .before .args .bytes .now) (c .before .before .before .before .before .before .before .before .before .before .before .before .before .before .before .before .before .before .args .clock .now) (c .before .before .before .before .before .before .before .before .before .before .before .before .before .before .before .before .before .before .args .outbound .now) (c .before .before .before .before .before .before .before .before .before .before .before .before .before .before .before .full-words .ensures) (c .before .before .before .before .before .before .before .before .before .before .before .before .before .full-halves .ensures) (c .before .before .before .before .before .before .before .before .before .before .before .full-bytes .ensures) (c .before .before .before .before .before .before .before .before .before .before .before .before .before .before .before .before .before .before .pre .1) (c .before .before .before .before .before .before .settle .ensures) (c .set-clock .ensures)
 

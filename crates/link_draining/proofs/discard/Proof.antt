@@ -4,37 +4,25 @@ use Rattle.link_draining.proofs.Outboxes.{ends-at, discards}
 use borrow.Author.Needs.{needs}
 use Rattle.link_draining.proofs.discard.Statement.{statement}
 use Rattle.link_draining.proofs.discard.Tie as tie
-use Rattle.link_draining.proofs.discard.Reads as reads
-use Rattle.link_draining.proofs.discard.Lts as lts
-use Rattle.link_outbox.proofs.used.Reads as used-reads
-use Rattle.parts.proofs.full_words.Reads as full-words-reads
-use Rattle.stores.proofs.clear.Reads as clear-reads
 
--- src/lib.rt:83:5
 full-words-requires : tie.Need-full-words-requires
 full-words-requires c κs = search needs
 
--- src/lib.rt:84:41
 element-copy-out-used : tie.Need-element-copy-out-used
 element-copy-out-used c = search needs
 
--- src/lib.rt:84:9
 used-requires : tie.Need-used-requires
 used-requires c κs = bounded (c .before .before .before .before .args .words .now) (c .before .before .before .before .args .halves .now) (c .before .before .before .before .args .bytes .now) (c .before .before .before .before .pre .few) (c .before .before .before .before .pre .small)
 
--- src/lib.rt:85:5
 clear-requires : tie.Need-clear-requires
 clear-requires c κs = (omega arith, omega (arith, c .before .used .ensures (c .before .before .before .before .before .before .args .bytes .now), ends-at (c .before .before .before .before .before .before .args .words .now) (c .before .before .before .before .before .before .args .halves .now) (c .before .before .before .before .before .before .args .bytes .now) (c .before .before .before .full-words .ensures) (c .before .before .before .before .before .before .pre .few), c .before .before .before .before .before .before .pre .small, c .before .before .before .before .before .before .pre .room))
 
--- src/lib.rt:86:5
 element-write-words : tie.Need-element-write-words
 element-write-words c = search needs
 
--- src/lib.rt:79:1
 same-length : tie.Need-same-length
 same-length c = search needs
 
--- src/lib.rt:79:1
 returns : tie.Need-returns
 returns c = discards (c .before .before .before .before .before .before .before .before .before .args .words .now) (c .before .before .before .before .before .before .before .before .before .args .halves .now) (c .before .before .before .before .before .before .before .before .before .args .bytes .now) (c .before .before .before .before .before .before .full-words .ensures) (c .before .before .before .before .before .before .before .before .before .args .outbound .now) _ (c .before .before .before .before .before .before .before .before .before .pre) (c .before .before .before .before .used .result) (c .before .before .before .before .used .ensures (c .before .before .before .before .before .before .before .before .before .args .bytes .now)) (c .before .before .clear .ensures)
 

@@ -2,52 +2,34 @@ use Rattle.link_draining.proofs.Ends.{fails-in}
 use borrow.Author.Needs.{needs}
 use Rattle.link_draining.proofs.fail.Statement.{statement}
 use Rattle.link_draining.proofs.fail.Tie as tie
-use Rattle.link_draining.proofs.fail.Reads as reads
-use Rattle.link_draining.proofs.fail.Lts as lts
-use Rattle.answers.proofs.refusal_number.Reads as refusal-number-reads
-use Rattle.events.proofs.emit.Reads as emit-reads
-use Rattle.link_draining.proofs.mark_failed.Reads as mark-failed-reads
-use Rattle.link_queue.proofs.clear.Reads as clear-reads
-use Rattle.parts.proofs.full_bytes.Reads as full-bytes-reads
-use Rattle.parts.proofs.full_words.Reads as full-words-reads
 
--- src/lib.rt:193:5
 full-words-requires : tie.Need-full-words-requires
 full-words-requires c κs = search needs
 
--- src/lib.rt:194:5
 full-bytes-requires : tie.Need-full-bytes-requires
 full-bytes-requires c κs = search needs
 
--- src/lib.rt:195:5
 clear-requires : tie.Need-clear-requires
 clear-requires c κs = search needs
 
--- src/lib.rt:196:5
 mark-failed-requires : tie.Need-mark-failed-requires
 mark-failed-requires c κs = search needs
 
--- src/lib.rt:197:9
 refusal-number-requires : tie.Need-refusal-number-requires
 refusal-number-requires c κs = search needs
 
--- src/lib.rt:198:5
 emit-requires : tie.Need-emit-requires
 emit-requires c κs = search needs
 
--- src/lib.rt:200:17
 add-t20 : tie.Need-add-t20
 add-t20 c = search needs
 
--- src/lib.rt:180:1
 same-length : tie.Need-same-length
 same-length c = search needs
 
--- src/lib.rt:180:1
 same-length-2 : tie.Need-same-length-2
 same-length-2 c = search needs
 
--- src/lib.rt:180:1
 returns : tie.Need-returns
 returns c = fails-in (c .before .before .before .before .before .before .before .before .before .before .before .before .before .before .before .before .before .before .before .args .x) (c .before .before .before .before .before .before .before .before .before .before .before .before .before .before .before .before .before .before .before .args .words .now) (c .before .before .before .before .before .before .before .before .before .before .before .before .before .before .before .before .before .before .before .args .halves .now) (c .before .before .before .before .before .before .before .before .before .before .before .before .before .before .before .before .before .before .before .args .bytes .now) (c .before .before .before .before .before .before .before .before .before .before .before .before .before .before .before .before .before .before .before .args .clock .now) (c .before .before .before .before .before .before .before .before .before .before .before .before .before .before .before .before .before .before .before .args .list .now) (c .before .before .before .before .before .before .before .before .before .before .before .before .before .before .before .before .before .before .before .args .n) (c .before .before .before .before .before .before .before .before .before .before .before .before .before .before .before .before .before .before .before .args .queue .now) (c .before .before .before .before .before .before .before .before .before .before .before .before .before .before .before .full-words .ensures) (c .before .before .before .before .before .before .before .before .before .before .before .before .before .full-bytes .ensures) (c .before .before .before .before .before .before .before .before .before .before .before .before .before .before .before .before .before .before .before .pre .codes) (c .before .before .before .before .before .before .before .before .before .clear .ensures) (c .before .before .before .before .before .mark-failed .ensures) (c .before .before .before .before .refusal-number .result) (c .before .before .before .before .refusal-number .ensures) (c .before .before .emit .ensures)
 

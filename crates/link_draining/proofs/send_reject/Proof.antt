@@ -3,40 +3,30 @@ use Rattle.link_draining.proofs.Outboxes.{reject-within, reject-length,
 use borrow.Author.Needs.{needs}
 use Rattle.link_draining.proofs.send_reject.Statement.{statement}
 use Rattle.link_draining.proofs.send_reject.Tie as tie
-use Rattle.link_draining.proofs.send_reject.Reads as reads
-use Rattle.link_draining.proofs.send_reject.Lts as lts
-use Rattle.link_draining.proofs.reject_body.Reads as reject-body-reads
-use Rattle.link_outbox.proofs.append.Reads as append-reads
 
--- src/lib.rt:72:9
-reject-body-requires : tie.Need-reject-body-requires
-reject-body-requires c κs = search needs
+reject-in-requires : tie.Need-reject-in-requires
+reject-in-requires c κs = search needs
 
--- src/lib.rt:75:60
 array-share-prefix-body : tie.Need-array-share-prefix-body
-array-share-prefix-body c = reject-within (c .before .before .before .before .before .before .before .before .before .args .words .now) (c .before .before .before .before .before .before .before .before .before .args .halves .now) (c .before .before .before .before .before .before .before .before .before .args .bytes .now) (c .before .before .before .before .before .reject-body .result) (c .before .before .before .before .before .reject-body .ensures) (c .before .before .before .before .before .before .before .before .before .pre .1)
+array-share-prefix-body c = reject-within (c .before .before .before .before .before .before .before .before .before .args .words .now) (c .before .before .before .before .before .before .before .before .before .args .halves .now) (c .before .before .before .before .before .before .before .before .before .args .bytes .now) (c .before .before .before .before .before .reject-in .result) (c .before .before .before .before .before .reject-in .ensures) (c .before .before .before .before .before .before .before .before .before .pre .1)
 
--- src/lib.rt:75:60
 slice-aggregate-append : tie.Need-slice-aggregate-append
-slice-aggregate-append c = sym (reject-length (c .before .before .before .before .before .before .before .before .before .before .args .words .now) (c .before .before .before .before .before .before .before .before .before .before .args .halves .now) (c .before .before .before .before .before .before .before .before .before .before .args .bytes .now) (c .before .before .before .before .before .before .reject-body .result) (c .before .before .before .before .before .before .reject-body .ensures) (c .before .before .before .before .before .before .before .before .before .before .pre .1))
+slice-aggregate-append c = sym (reject-length (c .before .before .before .before .before .before .before .before .before .before .args .words .now) (c .before .before .before .before .before .before .before .before .before .before .args .halves .now) (c .before .before .before .before .before .before .before .before .before .before .args .bytes .now) (c .before .before .before .before .before .before .reject-in .result) (c .before .before .before .before .before .before .reject-in .ensures) (c .before .before .before .before .before .before .before .before .before .before .pre .1))
 
--- src/lib.rt:75:5
 append-requires : tie.Need-append-requires
-append-requires c κs = reject-fits (c .before .before .before .before .before .before .before .before .before .before .args .words .now) (c .before .before .before .before .before .before .before .before .before .before .args .halves .now) (c .before .before .before .before .before .before .before .before .before .before .args .bytes .now) (c .before .before .before .before .before .before .reject-body .result) (c .before .before .before .before .before .before .reject-body .ensures) (c .before .before .before .before .before .before .before .before .before .before .pre .1) (c .before .before .before .before .before .before .before .before .before .before .pre .0)
+append-requires c κs = reject-fits (c .before .before .before .before .before .before .before .before .before .before .args .words .now) (c .before .before .before .before .before .before .before .before .before .before .args .halves .now) (c .before .before .before .before .before .before .before .before .before .before .args .bytes .now) (c .before .before .before .before .before .before .reject-in .result) (c .before .before .before .before .before .before .reject-in .ensures) (c .before .before .before .before .before .before .before .before .before .before .pre .1) (c .before .before .before .before .before .before .before .before .before .before .pre .0)
 
--- src/lib.rt:68:1
 same-length : tie.Need-same-length
 same-length c = search needs
 
--- src/lib.rt:68:1
 returns : tie.Need-returns
-returns c = reject-joins (c .before .before .before .before .before .before .before .before .before .before .before .before .before .args .words .now) (c .before .before .before .before .before .before .before .before .before .before .before .before .before .args .halves .now) (c .before .before .before .before .before .before .before .before .before .before .before .before .before .args .bytes .now) (c .before .before .before .before .before .before .before .before .before .reject-body .result) (c .before .before .before .before .before .before .before .before .before .reject-body .ensures) (c .before .before .before .before .before .before .before .before .before .before .before .before .before .pre .1) (c .before .before .append .ensures)
+returns c = reject-joins (c .before .before .before .before .before .before .before .before .before .before .before .before .before .args .words .now) (c .before .before .before .before .before .before .before .before .before .before .before .before .before .args .halves .now) (c .before .before .before .before .before .before .before .before .before .before .before .before .before .args .bytes .now) (c .before .before .before .before .before .before .before .before .before .reject-in .result) (c .before .before .before .before .before .before .before .before .before .reject-in .ensures) (c .before .before .before .before .before .before .before .before .before .before .before .before .before .pre .1) (c .before .before .append .ensures)
 
 pub send-reject-spec : {M : Type 1} → statement M
 send-reject-spec =
     tie.close
     (tie.spec
-    reject-body-requires
+    reject-in-requires
     array-share-prefix-body
     slice-aggregate-append
     append-requires

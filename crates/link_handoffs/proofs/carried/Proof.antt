@@ -5,12 +5,6 @@ use Rattle.parts.specs.Parts.{at, outboxIn}
 use borrow.Author.Needs.{needs}
 use Rattle.link_handoffs.proofs.carried.Statement.{statement}
 use Rattle.link_handoffs.proofs.carried.Tie as tie
-use Rattle.link_handoffs.proofs.carried.Reads as reads
-use Rattle.link_handoffs.proofs.carried.Lts as lts
-use Rattle.link_outbox.proofs.locate.Reads as locate-reads
-use Rattle.parts.proofs.full_bytes.Reads as full-bytes-reads
-use Rattle.stores.proofs.part.Reads as part-reads
-use Rattle.stores.proofs.same_bytes.Reads as same-bytes-reads
 
 -- src/lib.rt:114:5
 full-bytes-requires : tie.Need-full-bytes-requires

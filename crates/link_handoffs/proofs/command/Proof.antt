@@ -3,14 +3,6 @@ use Rattle.handoffs.proofs.Commands.{short-body}
 use borrow.Author.Needs.{needs}
 use Rattle.link_handoffs.proofs.command.Statement.{statement}
 use Rattle.link_handoffs.proofs.command.Tie as tie
-use Rattle.link_handoffs.proofs.command.Reads as reads
-use Rattle.link_handoffs.proofs.command.Lts as lts
-use Rattle.link_codes.proofs.refusal.Reads as refusal-reads
-use Rattle.link_handoffs.proofs.enters.Reads as enters-reads
-use Rattle.link_handoffs.proofs.goes.Reads as goes-reads
-use Rattle.link_handoffs.proofs.starting.Reads as starting-reads
-use Rattle.parts.proofs.full_halves.Reads as full-halves-reads
-use Rattle.peer_session.proofs.handoff_length.Reads as handoff-length-reads
 
 -- src/lib.rt:288:9
 handoff-length-requires : tie.Need-handoff-length-requires

@@ -2,11 +2,6 @@ use Rattle.link_handoffs.proofs.Steps.{is-asked}
 use borrow.Author.Needs.{needs}
 use Rattle.link_handoffs.proofs.done.Statement.{statement}
 use Rattle.link_handoffs.proofs.done.Tie as tie
-use Rattle.link_handoffs.proofs.done.Reads as reads
-use Rattle.link_handoffs.proofs.done.Lts as lts
-use Rattle.events.proofs.request.Reads as request-reads
-use Rattle.link_codes.proofs.plain.Reads as plain-reads
-use Rattle.link_codes.proofs.reading.clock_in.Reads as clock-in-reads
 
 -- src/lib.rt:78:9
 clock-in-requires : tie.Need-clock-in-requires

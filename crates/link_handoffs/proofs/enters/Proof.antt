@@ -5,9 +5,6 @@ use borrow.Author.Tests.{not-true, not-false}
 use borrow.Author.Needs.{needs}
 use Rattle.link_handoffs.proofs.enters.Statement.{statement}
 use Rattle.link_handoffs.proofs.enters.Tie as tie
-use Rattle.link_handoffs.proofs.enters.Reads as reads
-use Rattle.link_handoffs.proofs.enters.Lts as lts
-use Rattle.link_sound.proofs.sound.Reads as sound-reads
 
 -- src/lib.rt:41:9
 returns : tie.Need-returns

@@ -5,11 +5,6 @@ use borrow.Author.Tests.{not-true, not-false}
 use borrow.Author.Needs.{needs}
 use Rattle.link_handoffs.proofs.goes.Statement.{statement}
 use Rattle.link_handoffs.proofs.goes.Tie as tie
-use Rattle.link_handoffs.proofs.goes.Reads as reads
-use Rattle.link_handoffs.proofs.goes.Lts as lts
-use Rattle.link_handoffs.proofs.hand_off.Reads as hand-off-reads
-use Rattle.link_handoffs.proofs.no_command.Reads as no-command-reads
-use Rattle.link_handoffs.proofs.pending.Reads as pending-reads
 
 -- src/lib.rt:255:9
 no-command-requires : tie.Need-no-command-requires

@@ -4,13 +4,6 @@ use native.Mathlib.Omega.{arith}
 use borrow.Author.Needs.{needs}
 use Rattle.link_handoffs.proofs.hand_off.Statement.{statement}
 use Rattle.link_handoffs.proofs.hand_off.Tie as tie
-use Rattle.link_handoffs.proofs.hand_off.Reads as reads
-use Rattle.link_handoffs.proofs.hand_off.Lts as lts
-use Rattle.link_codes.proofs.refusal.Reads as refusal-reads
-use Rattle.link_handoffs.proofs.done.Reads as done-reads
-use Rattle.link_sending.proofs.allocate.Reads as allocate-reads
-use Rattle.link_starts.proofs.hand.Reads as hand-reads
-use Rattle.parts.proofs.full_halves.Reads as full-halves-reads
 
 -- src/lib.rt:190:5
 full-halves-requires : tie.Need-full-halves-requires

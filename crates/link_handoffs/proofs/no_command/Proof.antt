@@ -3,10 +3,6 @@ use borrow.Author.Tests.{not-true, not-false}
 use borrow.Author.Needs.{needs}
 use Rattle.link_handoffs.proofs.no_command.Statement.{statement}
 use Rattle.link_handoffs.proofs.no_command.Tie as tie
-use Rattle.link_handoffs.proofs.no_command.Reads as reads
-use Rattle.link_handoffs.proofs.no_command.Lts as lts
-use Rattle.link_codes.proofs.refusal.Reads as refusal-reads
-use Rattle.link_handoffs.proofs.done.Reads as done-reads
 
 -- src/lib.rt:168:9
 done-requires : tie.Need-done-requires

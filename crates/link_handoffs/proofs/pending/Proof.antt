@@ -3,11 +3,6 @@ use borrow.Author.Tests.{not-true, not-false}
 use borrow.Author.Needs.{needs}
 use Rattle.link_handoffs.proofs.pending.Statement.{statement}
 use Rattle.link_handoffs.proofs.pending.Tie as tie
-use Rattle.link_handoffs.proofs.pending.Reads as reads
-use Rattle.link_handoffs.proofs.pending.Lts as lts
-use Rattle.link_codes.proofs.refusal.Reads as refusal-reads
-use Rattle.link_handoffs.proofs.same_body.Reads as same-body-reads
-use Rattle.link_handoffs.proofs.validate.Reads as validate-reads
 
 -- src/lib.rt:227:9
 refusal-requires : tie.Need-refusal-requires

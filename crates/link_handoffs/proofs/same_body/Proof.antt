@@ -3,11 +3,6 @@ use mathlib.Core.Path.{sym}
 use borrow.Author.Needs.{needs}
 use Rattle.link_handoffs.proofs.same_body.Statement.{statement}
 use Rattle.link_handoffs.proofs.same_body.Tie as tie
-use Rattle.link_handoffs.proofs.same_body.Reads as reads
-use Rattle.link_handoffs.proofs.same_body.Lts as lts
-use Rattle.parts.proofs.full_bytes.Reads as full-bytes-reads
-use Rattle.stores.proofs.part.Reads as part-reads
-use Rattle.stores.proofs.same_bytes.Reads as same-bytes-reads
 
 -- src/lib.rt:90:5
 full-bytes-requires : tie.Need-full-bytes-requires

@@ -3,9 +3,6 @@ use borrow.Author.Tests.{not-true, not-false}
 use borrow.Author.Needs.{needs}
 use Rattle.link_handoffs.proofs.starting.Statement.{statement}
 use Rattle.link_handoffs.proofs.starting.Tie as tie
-use Rattle.link_handoffs.proofs.starting.Reads as reads
-use Rattle.link_handoffs.proofs.starting.Lts as lts
-use Rattle.link_setup.proofs.stage.Reads as stage-reads
 
 -- src/lib.rt:63:9
 returns : tie.Need-returns

@@ -2,9 +2,6 @@ use Rattle.link_handoffs.proofs.Validates.{none-unacked, first-unacked}
 use borrow.Author.Needs.{needs}
 use Rattle.link_handoffs.proofs.unacked_to.Statement.{statement}
 use Rattle.link_handoffs.proofs.unacked_to.Tie as tie
-use Rattle.link_handoffs.proofs.unacked_to.Reads as reads
-use Rattle.link_handoffs.proofs.unacked_to.Lts as lts
-use Rattle.parts.proofs.wide.Reads as wide-reads
 
 -- src/lib.rt:103:8
 element-copy-out-if1 : tie.Need-element-copy-out-if1

@@ -3,12 +3,6 @@ use borrow.Author.Tests.{not-true, not-false}
 use borrow.Author.Needs.{needs}
 use Rattle.link_handoffs.proofs.validate.Statement.{statement}
 use Rattle.link_handoffs.proofs.validate.Tie as tie
-use Rattle.link_handoffs.proofs.validate.Reads as reads
-use Rattle.link_handoffs.proofs.validate.Lts as lts
-use Rattle.link_codes.proofs.refusal.Reads as refusal-reads
-use Rattle.link_handoffs.proofs.carried.Reads as carried-reads
-use Rattle.link_handoffs.proofs.done.Reads as done-reads
-use Rattle.link_handoffs.proofs.unacked_to.Reads as unacked-to-reads
 
 -- src/lib.rt:139:8
 element-copy-out-if1 : tie.Need-element-copy-out-if1

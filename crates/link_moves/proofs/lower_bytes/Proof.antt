@@ -6,9 +6,6 @@ use Rattle.link_moves.proofs.Moves.{lowered-none, lowered-more, lowered
 use borrow.Author.Needs.{needs}
 use Rattle.link_moves.proofs.lower_bytes.Statement.{statement}
 use Rattle.link_moves.proofs.lower_bytes.Tie as tie
-use Rattle.link_moves.proofs.lower_bytes.Reads as reads
-use Rattle.link_moves.proofs.lower_bytes.Lts as lts
-use Rattle.parts.proofs.full_bytes.Reads as full-bytes-reads
 
 abbrev Inv-loop : tie.InvT-loop
 Inv-loop bytes₀ to from n i₀ bytes i = (i ≤ n) × (to ≤ from) × (from + n ≤ 4936) × (4936 ≤ length bytes₀) × Lowered to from i bytes₀ bytes

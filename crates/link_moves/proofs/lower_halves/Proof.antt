@@ -6,9 +6,6 @@ use Rattle.link_moves.proofs.Moves.{lowered-none, lowered-more, lowered
 use borrow.Author.Needs.{needs}
 use Rattle.link_moves.proofs.lower_halves.Statement.{statement}
 use Rattle.link_moves.proofs.lower_halves.Tie as tie
-use Rattle.link_moves.proofs.lower_halves.Reads as reads
-use Rattle.link_moves.proofs.lower_halves.Lts as lts
-use Rattle.parts.proofs.full_halves.Reads as full-halves-reads
 
 abbrev Inv-loop : tie.InvT-loop
 Inv-loop halves₀ to from n i₀ halves i = (i ≤ n) × (to ≤ from) × (from + n ≤ 772) × (772 ≤ length halves₀) × Lowered to from i halves₀ halves

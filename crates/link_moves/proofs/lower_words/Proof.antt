@@ -6,9 +6,6 @@ use Rattle.link_moves.proofs.Moves.{lowered-none, lowered-more, lowered
 use borrow.Author.Needs.{needs}
 use Rattle.link_moves.proofs.lower_words.Statement.{statement}
 use Rattle.link_moves.proofs.lower_words.Tie as tie
-use Rattle.link_moves.proofs.lower_words.Reads as reads
-use Rattle.link_moves.proofs.lower_words.Lts as lts
-use Rattle.parts.proofs.full_words.Reads as full-words-reads
 
 abbrev Inv-loop : tie.InvT-loop
 Inv-loop words₀ to from n i₀ words i = (i ≤ n) × (to ≤ from) × (from + n ≤ 1296) × (1296 ≤ length words₀) × Lowered to from i words₀ words

@@ -6,9 +6,6 @@ use Rattle.link_moves.proofs.Moves.{raised-none, raised-more, raised-al
 use borrow.Author.Needs.{needs}
 use Rattle.link_moves.proofs.raise_bytes.Statement.{statement}
 use Rattle.link_moves.proofs.raise_bytes.Tie as tie
-use Rattle.link_moves.proofs.raise_bytes.Reads as reads
-use Rattle.link_moves.proofs.raise_bytes.Lts as lts
-use Rattle.parts.proofs.full_bytes.Reads as full-bytes-reads
 
 abbrev Inv-loop : tie.InvT-loop
 Inv-loop bytes₀ from end i₀ bytes i = (from ≤ i) × (i ≤ end) × (end < 4936) × (4936 ≤ length bytes₀) × Raised i end bytes₀ bytes

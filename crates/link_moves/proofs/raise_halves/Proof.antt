@@ -6,9 +6,6 @@ use Rattle.link_moves.proofs.Moves.{raised-none, raised-more, raised-al
 use borrow.Author.Needs.{needs}
 use Rattle.link_moves.proofs.raise_halves.Statement.{statement}
 use Rattle.link_moves.proofs.raise_halves.Tie as tie
-use Rattle.link_moves.proofs.raise_halves.Reads as reads
-use Rattle.link_moves.proofs.raise_halves.Lts as lts
-use Rattle.parts.proofs.full_halves.Reads as full-halves-reads
 
 abbrev Inv-loop : tie.InvT-loop
 Inv-loop halves₀ from end i₀ halves i = (from ≤ i) × (i ≤ end) × (end < 772) × (772 ≤ length halves₀) × Raised i end halves₀ halves

@@ -6,9 +6,6 @@ use Rattle.link_moves.proofs.Moves.{raised-none, raised-more, raised-al
 use borrow.Author.Needs.{needs}
 use Rattle.link_moves.proofs.raise_words.Statement.{statement}
 use Rattle.link_moves.proofs.raise_words.Tie as tie
-use Rattle.link_moves.proofs.raise_words.Reads as reads
-use Rattle.link_moves.proofs.raise_words.Lts as lts
-use Rattle.parts.proofs.full_words.Reads as full-words-reads
 
 abbrev Inv-loop : tie.InvT-loop
 Inv-loop words₀ from end i₀ words i = (from ≤ i) × (i ≤ end) × (end < 1296) × (1296 ≤ length words₀) × Raised i end words₀ words

@@ -4,9 +4,6 @@ use Rattle.link_numbers.proofs.Asked.{ascends-none, ascends-some}
 use borrow.Author.Needs.{needs}
 use Rattle.link_numbers.proofs.ascends.Statement.{statement}
 use Rattle.link_numbers.proofs.ascends.Tie as tie
-use Rattle.link_numbers.proofs.ascends.Reads as reads
-use Rattle.link_numbers.proofs.ascends.Lts as lts
-use Rattle.link_numbers.proofs.rises.Reads as rises-reads
 
 -- src/lib.rt:58:9
 returns : tie.Need-returns

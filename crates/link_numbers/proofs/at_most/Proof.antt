@@ -3,8 +3,6 @@ use Rattle.link_numbers.proofs.Asked.{most-last, most-none}
 use borrow.Author.Needs.{needs}
 use Rattle.link_numbers.proofs.at_most.Statement.{statement}
 use Rattle.link_numbers.proofs.at_most.Tie as tie
-use Rattle.link_numbers.proofs.at_most.Reads as reads
-use Rattle.link_numbers.proofs.at_most.Lts as lts
 
 -- src/lib.rt:47:9
 returns : tie.Need-returns

@@ -13,8 +13,6 @@ use Rattle.link_numbers.proofs.Asked.{any-in, any-past}
 use borrow.Author.Needs.{needs}
 use Rattle.link_numbers.proofs.has.Statement.{statement}
 use Rattle.link_numbers.proofs.has.Tie as tie
-use Rattle.link_numbers.proofs.has.Reads as reads
-use Rattle.link_numbers.proofs.has.Lts as lts
 
 abbrev Inv-loop : tie.InvT-loop
 Inv-loop words from count n i₀ i = Lies from count words × (i ≤ count) × (has n (slice i count (section from 512 words)) ≡ has n (firsts from count words))

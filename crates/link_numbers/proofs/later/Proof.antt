@@ -3,8 +3,6 @@ use borrow.Author.Tests.{lt-ltb, le-ltb}
 use Rattle.numbers.specs.Seats.{step}
 use Rattle.link_numbers.proofs.later.Statement.{statement}
 use Rattle.link_numbers.proofs.later.Tie as tie
-use Rattle.link_numbers.proofs.later.Reads as reads
-use Rattle.link_numbers.proofs.later.Lts as lts
 
 -- src/lib.rt:194:9
 returns : tie.Need-returns

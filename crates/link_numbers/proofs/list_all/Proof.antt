@@ -7,9 +7,6 @@ use Rattle.link_numbers.specs.Sets.{Set}
 use borrow.Author.Needs.{needs}
 use Rattle.link_numbers.proofs.list_all.Statement.{statement}
 use Rattle.link_numbers.proofs.list_all.Tie as tie
-use Rattle.link_numbers.proofs.list_all.Reads as reads
-use Rattle.link_numbers.proofs.list_all.Lts as lts
-use Rattle.events.proofs.emit.Reads as emit-reads
 
 abbrev Inv-loop : tie.InvT-loop
 Inv-loop words from at list₀ n count i₀ list i = Set from at words × ListingAll (section from 512 words) count list₀ n list i

@@ -2,9 +2,6 @@ use Rattle.numbers.proofs.Passes.{listed-chosen, listed-passed}
 use borrow.Author.Needs.{needs}
 use Rattle.link_numbers.proofs.list_one.Statement.{statement}
 use Rattle.link_numbers.proofs.list_one.Tie as tie
-use Rattle.link_numbers.proofs.list_one.Reads as reads
-use Rattle.link_numbers.proofs.list_one.Lts as lts
-use Rattle.events.proofs.emit.Reads as emit-reads
 
 -- src/lib.rt:205:9
 emit-requires : tie.Need-emit-requires

@@ -1,8 +1,6 @@
 use Rattle.numbers.proofs.Passes.{step-same, step-other}
 use Rattle.link_numbers.proofs.other.Statement.{statement}
 use Rattle.link_numbers.proofs.other.Tie as tie
-use Rattle.link_numbers.proofs.other.Reads as reads
-use Rattle.link_numbers.proofs.other.Lts as lts
 
 -- src/lib.rt:163:9
 returns : tie.Need-returns

@@ -3,10 +3,6 @@ use Rattle.link_numbers.proofs.Changes.{lies, put-stays, put-fits, put-
 use borrow.Author.Needs.{needs}
 use Rattle.link_numbers.proofs.put.Statement.{statement}
 use Rattle.link_numbers.proofs.put.Tie as tie
-use Rattle.link_numbers.proofs.put.Reads as reads
-use Rattle.link_numbers.proofs.put.Lts as lts
-use Rattle.link_numbers.proofs.put_at.Reads as put-at-reads
-use Rattle.link_numbers.proofs.seat.Reads as seat-reads
 
 -- src/lib.rt:117:17
 mul-count : tie.Need-mul-count

@@ -4,8 +4,6 @@ use Rattle.link_numbers.proofs.Changes.{Raising, raising-none, raising-
 use borrow.Author.Needs.{needs}
 use Rattle.link_numbers.proofs.put_at.Statement.{statement}
 use Rattle.link_numbers.proofs.put_at.Tie as tie
-use Rattle.link_numbers.proofs.put_at.Reads as reads
-use Rattle.link_numbers.proofs.put_at.Lts as lts
 
 abbrev Inv-loop : tie.InvT-loop
 Inv-loop words₀ from at i n count j₀ words j = Raising from at i count words₀ words j

@@ -7,10 +7,6 @@ use Rattle.link_numbers.proofs.Changes.{ReleasingIn, releasing-in, rele
 use borrow.Author.Needs.{needs}
 use Rattle.link_numbers.proofs.release.Statement.{statement}
 use Rattle.link_numbers.proofs.release.Tie as tie
-use Rattle.link_numbers.proofs.release.Reads as reads
-use Rattle.link_numbers.proofs.release.Lts as lts
-use Rattle.link_numbers.proofs.later.Reads as later-reads
-use Rattle.link_numbers.proofs.list_one.Reads as list-one-reads
 
 abbrev Inv-loop : tie.InvT-loop
 Inv-loop words₀ from at upto list₀ n count events₀ k₀ i₀ words list events k i = ReleasingIn upto from at count words₀ list₀ n words list events k i

@@ -10,8 +10,6 @@ use Rattle.link_numbers.proofs.Asked.{rises-in, rises-stop}
 use borrow.Author.Needs.{needs}
 use Rattle.link_numbers.proofs.rises.Statement.{statement}
 use Rattle.link_numbers.proofs.rises.Tie as tie
-use Rattle.link_numbers.proofs.rises.Reads as reads
-use Rattle.link_numbers.proofs.rises.Lts as lts
 
 abbrev Inv-loop : tie.InvT-loop
 Inv-loop words from count first last top₀ i₀ top i = Lies from count words × (i ≤ count) × (rising itself top (slice i count (section from 512 words)) ≡ rising itself last (slice first count (section from 512 words)))

@@ -6,8 +6,6 @@ use Rattle.link_numbers.proofs.Asked.{seat-in}
 use borrow.Author.Needs.{needs}
 use Rattle.link_numbers.proofs.seat.Statement.{statement}
 use Rattle.link_numbers.proofs.seat.Tie as tie
-use Rattle.link_numbers.proofs.seat.Reads as reads
-use Rattle.link_numbers.proofs.seat.Lts as lts
 
 abbrev Inv-loop : tie.InvT-loop
 Inv-loop words from count n j₀ j = Lies from count words × (j ≤ count) × (j < count → n ≤ at words (from + j))

@@ -7,9 +7,6 @@ use Rattle.link_numbers.proofs.Changes.{Sifting, sifting-none, sifting-
 use borrow.Author.Needs.{needs}
 use Rattle.link_numbers.proofs.take_out.Statement.{statement}
 use Rattle.link_numbers.proofs.take_out.Tie as tie
-use Rattle.link_numbers.proofs.take_out.Reads as reads
-use Rattle.link_numbers.proofs.take_out.Lts as lts
-use Rattle.link_numbers.proofs.other.Reads as other-reads
 
 abbrev Inv-loop : tie.InvT-loop
 Inv-loop words₀ from at n count k₀ i₀ words k i = Sifting (differs-from n) from at count words₀ words i k

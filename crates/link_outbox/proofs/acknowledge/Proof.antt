@@ -6,15 +6,6 @@ use Rattle.link_outbox.proofs.Fronts.{stay-within, shed-none, front-of}
 use borrow.Author.Needs.{needs}
 use Rattle.link_outbox.proofs.acknowledge.Statement.{statement}
 use Rattle.link_outbox.proofs.acknowledge.Tie as tie
-use Rattle.link_outbox.proofs.acknowledge.Reads as reads
-use Rattle.link_outbox.proofs.acknowledge.Lts as lts
-use Rattle.parts.proofs.full_bytes.Reads as full-bytes-reads
-use Rattle.parts.proofs.full_halves.Reads as full-halves-reads
-use Rattle.parts.proofs.full_words.Reads as full-words-reads
-use Rattle.link_outbox.proofs.shed.Reads as shed-reads
-use Rattle.parts.proofs.size.Reads as size-reads
-use Rattle.link_outbox.proofs.staying.Reads as staying-reads
-use Rattle.link_outbox.proofs.sweep.Reads as sweep-reads
 
 within : (c : tie.After-size) → c .size .result ≤ at (c .before .before .before .before .before .before .before .before .before .before .before .before .args .words .now) 1
 within c =

@@ -2,12 +2,6 @@ use Rattle.link_outbox.proofs.Appends.{joined}
 use borrow.Author.Needs.{needs}
 use Rattle.link_outbox.proofs.append.Statement.{statement}
 use Rattle.link_outbox.proofs.append.Tie as tie
-use Rattle.link_outbox.proofs.append.Reads as reads
-use Rattle.link_outbox.proofs.append.Lts as lts
-use Rattle.parts.proofs.full_bytes.Reads as full-bytes-reads
-use Rattle.parts.proofs.full_halves.Reads as full-halves-reads
-use Rattle.parts.proofs.full_words.Reads as full-words-reads
-use Rattle.stores.proofs.copy_in.Reads as copy-in-reads
 
 -- src/lib.rt:150:5
 full-words-requires : tie.Need-full-words-requires

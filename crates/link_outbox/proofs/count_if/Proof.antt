@@ -5,8 +5,6 @@ use Rattle.rules.specs.Lists.{if_then_else_}
 use borrow.Author.Needs.{needs}
 use Rattle.link_outbox.proofs.count_if.Statement.{statement}
 use Rattle.link_outbox.proofs.count_if.Tie as tie
-use Rattle.link_outbox.proofs.count_if.Reads as reads
-use Rattle.link_outbox.proofs.count_if.Lts as lts
 
 -- src/lib.rt:356:16
 add-result : tie.Need-add-result

@@ -1,9 +1,6 @@
 use Rattle.link_outbox.proofs.Sounds.{fall-none, fall-one}
-use borrow.Author.Needs.{needs}
 use Rattle.link_outbox.proofs.fall_of.Statement.{statement}
 use Rattle.link_outbox.proofs.fall_of.Tie as tie
-use Rattle.link_outbox.proofs.fall_of.Reads as reads
-use Rattle.link_outbox.proofs.fall_of.Lts as lts
 
 -- src/lib.rt:22:9
 returns : tie.Need-returns

@@ -6,12 +6,6 @@ use Rattle.link_outbox.proofs.Sounds.{steps-rise}
 use borrow.Author.Needs.{needs}
 use Rattle.link_outbox.proofs.falls_in.Statement.{statement}
 use Rattle.link_outbox.proofs.falls_in.Tie as tie
-use Rattle.link_outbox.proofs.falls_in.Reads as reads
-use Rattle.link_outbox.proofs.falls_in.Lts as lts
-use Rattle.link_outbox.proofs.falls_of.Reads as falls-of-reads
-use Rattle.parts.proofs.size.Reads as size-reads
-use Rattle.link_outbox.proofs.steps_of.Reads as steps-of-reads
-use Rattle.parts.proofs.wide.Reads as wide-reads
 
 -- src/lib.rt:112:17
 element-copy-out-first : tie.Need-element-copy-out-first

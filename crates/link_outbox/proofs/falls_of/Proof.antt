@@ -1,10 +1,8 @@
-use mathlib.Core.Path.{_≡_, refl}
+use mathlib.Core.Path.{_≡_}
 use mathlib.Core.List.{List}
 use native.Mathlib.Omega.{arith}
-use Prim.Native.Nat.{ℕ, _+_, _-_, _*_, _≤_}
-use lib.ListN.{take}
+use Prim.Native.Nat.{ℕ, _+_, _-_, _≤_}
 use lib.Seq.{slice}
-use Rattle.rules.specs.Lists.{total}
 use Rattle.parts.specs.Seats.{seats}
 use Rattle.parts.specs.Parts.{at, unackedAt}
 use Rattle.link_outbox.specs.Tests.{falls}
@@ -12,9 +10,6 @@ use Rattle.link_outbox.proofs.Sounds.{falls-more, falls-end, fall-few}
 use borrow.Author.Needs.{needs}
 use Rattle.link_outbox.proofs.falls_of.Statement.{statement}
 use Rattle.link_outbox.proofs.falls_of.Tie as tie
-use Rattle.link_outbox.proofs.falls_of.Reads as reads
-use Rattle.link_outbox.proofs.falls_of.Lts as lts
-use Rattle.link_outbox.proofs.fall_of.Reads as fall-of-reads
 
 abbrev Inv-loop : tie.InvT-loop
 Inv-loop halves count sum₀ i₀ sum i = (count ≤ 256) × (1 ≤ i) × (i ≤ count + 1) × (sum ≤ i) × ((b : List ℕ) → sum + falls (at halves (i - 1)) (slice i count (seats 256 (unackedAt halves b))) ≡ falls (at halves 0) (slice 1 count (seats 256 (unackedAt halves b))))

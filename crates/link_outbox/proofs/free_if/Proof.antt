@@ -1,11 +1,9 @@
-use mathlib.Core.Path.{_≡_, sym, ap}
+use mathlib.Core.Path.{sym, ap}
 use mathlib.Core.Bool.{Bool}
 use Rattle.link_outbox.specs.Steps.{freed}
 use borrow.Author.Needs.{needs}
 use Rattle.link_outbox.proofs.free_if.Statement.{statement}
 use Rattle.link_outbox.proofs.free_if.Tie as tie
-use Rattle.link_outbox.proofs.free_if.Reads as reads
-use Rattle.link_outbox.proofs.free_if.Lts as lts
 
 -- src/lib.rt:220:9
 element-write-bytes : tie.Need-element-write-bytes

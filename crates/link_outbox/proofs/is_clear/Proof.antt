@@ -1,11 +1,8 @@
 use mathlib.Core.Path.{sym, ap}
-use mathlib.Core.Bool.{Bool, not}
+use mathlib.Core.Bool.{not}
 use Rattle.link_outbox.proofs.Frees.{flag-clear, flag-set}
-use borrow.Author.Needs.{needs}
 use Rattle.link_outbox.proofs.is_clear.Statement.{statement}
 use Rattle.link_outbox.proofs.is_clear.Tie as tie
-use Rattle.link_outbox.proofs.is_clear.Reads as reads
-use Rattle.link_outbox.proofs.is_clear.Lts as lts
 
 -- src/lib.rt:294:9
 returns : tie.Need-returns

@@ -1,14 +1,10 @@
-use mathlib.Core.Path.{sym, ap, _∙_}
-use mathlib.Core.Bool.{not}
+use mathlib.Core.Path.{sym}
 use Rattle.parts.specs.Parts.{flag}
 use Rattle.outbox.specs.declared.Unacked.{Unacked}
 use Rattle.outbox.proofs.Flags.{survives-above, survives-pending, survives-unsent}
 use Rattle.link_outbox.proofs.Frees.{flag-clear, flag-set}
-use borrow.Author.Needs.{needs}
 use Rattle.link_outbox.proofs.keeps.Statement.{statement}
 use Rattle.link_outbox.proofs.keeps.Tie as tie
-use Rattle.link_outbox.proofs.keeps.Reads as reads
-use Rattle.link_outbox.proofs.keeps.Lts as lts
 
 -- the record, but for its length
 abbrev u : tie.Start → Unacked

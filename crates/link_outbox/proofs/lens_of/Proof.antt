@@ -12,9 +12,6 @@ use Rattle.link_outbox.proofs.Sounds.{total-seats, total-end}
 use borrow.Author.Needs.{needs}
 use Rattle.link_outbox.proofs.lens_of.Statement.{statement}
 use Rattle.link_outbox.proofs.lens_of.Tie as tie
-use Rattle.link_outbox.proofs.lens_of.Reads as reads
-use Rattle.link_outbox.proofs.lens_of.Lts as lts
-use Rattle.link_outbox.proofs.len_of.Reads as len-of-reads
 
 abbrev Inv-loop : tie.InvT-loop
 Inv-loop halves count sum₀ i₀ sum i = (count ≤ 256) × (i ≤ count) × (sum ≤ 4294967295 * i) × ((b : List ℕ) → sum + total lenU (slice i count (seats 256 (unackedAt halves b))) ≡ total lenU (take count (seats 256 (unackedAt halves b))))

@@ -16,10 +16,6 @@ use Rattle.link_outbox.proofs.Places.{found, passed}
 use borrow.Author.Needs.{needs}
 use Rattle.link_outbox.proofs.locate.Statement.{statement}
 use Rattle.link_outbox.proofs.locate.Tie as tie
-use Rattle.link_outbox.proofs.locate.Reads as reads
-use Rattle.link_outbox.proofs.locate.Lts as lts
-use Rattle.parts.proofs.size.Reads as size-reads
-use Rattle.parts.proofs.wide.Reads as wide-reads
 
 abbrev Inv-loop : tie.InvT-loop
 Inv-loop words halves number count from₀ i₀ from i =

@@ -2,8 +2,6 @@ use Rattle.link_outbox.proofs.Fronts.{low-small, low-large}
 use borrow.Author.Needs.{needs}
 use Rattle.link_outbox.proofs.low_of.Statement.{statement}
 use Rattle.link_outbox.proofs.low_of.Tie as tie
-use Rattle.link_outbox.proofs.low_of.Reads as reads
-use Rattle.link_outbox.proofs.low_of.Lts as lts
 
 -- src/lib.rt:439:16
 cast-result : tie.Need-cast-result

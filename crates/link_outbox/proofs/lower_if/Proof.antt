@@ -1,4 +1,4 @@
-use mathlib.Core.Path.{sym, ap, _∙_}
+use mathlib.Core.Path.{ap, _∙_}
 use Prim.Native.Nat.{ℕ}
 use lib.ListN.{take, drop}
 use Rattle.stores.specs.Placed.{placed}
@@ -7,9 +7,6 @@ use borrow.Author.Tests.{not-true, not-false}
 use borrow.Author.Needs.{needs}
 use Rattle.link_outbox.proofs.lower_if.Statement.{statement}
 use Rattle.link_outbox.proofs.lower_if.Tie as tie
-use Rattle.link_outbox.proofs.lower_if.Reads as reads
-use Rattle.link_outbox.proofs.lower_if.Lts as lts
-use Rattle.stores.proofs.move_down.Reads as move-down-reads
 
 -- src/lib.rt:342:9
 returns : tie.Need-returns

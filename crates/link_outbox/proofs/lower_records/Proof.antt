@@ -2,10 +2,6 @@ use Rattle.link_outbox.proofs.Fronts.{shifted}
 use borrow.Author.Needs.{needs}
 use Rattle.link_outbox.proofs.lower_records.Statement.{statement}
 use Rattle.link_outbox.proofs.lower_records.Tie as tie
-use Rattle.link_outbox.proofs.lower_records.Reads as reads
-use Rattle.link_outbox.proofs.lower_records.Lts as lts
-use Rattle.link_moves.proofs.lower_bytes.Reads as lower-bytes-reads
-use Rattle.link_moves.proofs.lower_halves.Reads as lower-halves-reads
 
 -- src/lib.rt:492:5
 lower-halves-requires : tie.Need-lower-halves-requires

@@ -1,4 +1,3 @@
-use mathlib.Core.Path.{_≡_, sym}
 use Prim.Native.Nat.{_≤_}
 use native.Mathlib.Omega.{arith}
 use Rattle.parts.specs.Parts.{at, outboxIn}
@@ -7,10 +6,6 @@ use Rattle.link_outbox.proofs.Marks.{marked, not-marked}
 use borrow.Author.Needs.{needs}
 use Rattle.link_outbox.proofs.mark_sent.Statement.{statement}
 use Rattle.link_outbox.proofs.mark_sent.Tie as tie
-use Rattle.link_outbox.proofs.mark_sent.Reads as reads
-use Rattle.link_outbox.proofs.mark_sent.Lts as lts
-use Rattle.parts.proofs.full_bytes.Reads as full-bytes-reads
-use Rattle.link_outbox.proofs.seat.Reads as seat-reads
 
 few : (a : tie.Start) → at (a .args .words .now) 1 ≤ 256
 few a = sound-facts (outboxIn (a .args .words .now) (a .args .halves .now) (a .args .bytes .now)) (a .pre) .few

@@ -1,5 +1,5 @@
 use mathlib.Core.Path.{_≡_, refl}
-use Prim.Native.Nat.{_+_, _-_, _≤_}
+use Prim.Native.Nat.{_-_}
 use native.Mathlib.Omega.{arith}
 use Rattle.rules.specs.Commits as R
 use Rattle.outbox.specs.Records.{releasesU}
@@ -9,13 +9,6 @@ use Rattle.link_outbox.proofs.Frees.{Freeing, freeing-none, freeing-mor
 use borrow.Author.Needs.{needs}
 use Rattle.link_outbox.proofs.release.Statement.{statement}
 use Rattle.link_outbox.proofs.release.Tie as tie
-use Rattle.link_outbox.proofs.release.Reads as reads
-use Rattle.link_outbox.proofs.release.Lts as lts
-use Rattle.link_outbox.proofs.free_if.Reads as free-if-reads
-use Rattle.parts.proofs.full_bytes.Reads as full-bytes-reads
-use Rattle.link_outbox.proofs.releases.Reads as releases-reads
-use Rattle.link_outbox.proofs.send_if.Reads as send-if-reads
-use Rattle.parts.proofs.size.Reads as size-reads
 
 abbrev Inv-loop : tie.InvT-loop
 Inv-loop words halves bytes₀ upto list₀ n count k₀ from₀ i₀ bytes list k from i =

@@ -1,11 +1,8 @@
 use mathlib.Core.Path.{refl, sym}
 use Rattle.stores.proofs.Chains.{is-skip, is-stop}
 use Rattle.link_outbox.proofs.Frees.{flag-clear, flag-set}
-use borrow.Author.Needs.{needs}
 use Rattle.link_outbox.proofs.releases.Statement.{statement}
 use Rattle.link_outbox.proofs.releases.Tie as tie
-use Rattle.link_outbox.proofs.releases.Reads as reads
-use Rattle.link_outbox.proofs.releases.Lts as lts
 
 -- src/lib.rt:263:9
 returns : tie.Need-returns

@@ -1,5 +1,5 @@
 use mathlib.Core.Path.{_≡_, refl}
-use Prim.Native.Nat.{_+_, _-_, _≤_}
+use Prim.Native.Nat.{_-_}
 use native.Mathlib.Omega.{arith}
 use Rattle.rules.specs.Replay.{not-pending}
 use Rattle.outbox.specs.Records.{notPendingU}
@@ -10,11 +10,6 @@ use Rattle.link_outbox.proofs.Frees.{listing-start, listing-body, listi
 use borrow.Author.Needs.{needs}
 use Rattle.link_outbox.proofs.replay.Statement.{statement}
 use Rattle.link_outbox.proofs.replay.Tie as tie
-use Rattle.link_outbox.proofs.replay.Reads as reads
-use Rattle.link_outbox.proofs.replay.Lts as lts
-use Rattle.link_outbox.proofs.is_clear.Reads as is-clear-reads
-use Rattle.link_outbox.proofs.send_if.Reads as send-if-reads
-use Rattle.parts.proofs.size.Reads as size-reads
 
 abbrev Inv-loop : tie.InvT-loop
 Inv-loop words halves bytes list₀ n count k₀ from₀ i₀ list k from i =

@@ -1,9 +1,6 @@
 use Rattle.link_outbox.proofs.Sounds.{same-one, same-none}
-use borrow.Author.Needs.{needs}
 use Rattle.link_outbox.proofs.same_of.Statement.{statement}
 use Rattle.link_outbox.proofs.same_of.Tie as tie
-use Rattle.link_outbox.proofs.same_of.Reads as reads
-use Rattle.link_outbox.proofs.same_of.Lts as lts
 
 -- src/lib.rt:88:9
 returns : tie.Need-returns

@@ -1,4 +1,4 @@
-use mathlib.Core.Path.{_≡_, refl, sym, ap, _∙_}
+use mathlib.Core.Path.{_≡_, _∙_}
 use Prim.Native.Nat.{ℕ, _≤_, _<_, _-_}
 use native.Mathlib.Omega.{arith}
 use borrow.Author.Count.{below-more}
@@ -6,9 +6,6 @@ use Rattle.parts.specs.Parts.{at}
 use borrow.Author.Needs.{needs}
 use Rattle.link_outbox.proofs.search.Statement.{statement}
 use Rattle.link_outbox.proofs.search.Tie as tie
-use Rattle.link_outbox.proofs.search.Reads as reads
-use Rattle.link_outbox.proofs.search.Lts as lts
-use Rattle.parts.proofs.wide.Reads as wide-reads
 
 abbrev Inv-loop : tie.InvT-loop
 Inv-loop halves count number i₀ i = (count ≤ 256) × (i ≤ count) × ((k : ℕ) → k < i → at halves k ≡ number → ⊥)

@@ -2,9 +2,6 @@ use Rattle.outbox.proofs.Listings.{sends, sends-not}
 use borrow.Author.Needs.{needs}
 use Rattle.link_outbox.proofs.send_if.Statement.{statement}
 use Rattle.link_outbox.proofs.send_if.Tie as tie
-use Rattle.link_outbox.proofs.send_if.Reads as reads
-use Rattle.link_outbox.proofs.send_if.Lts as lts
-use Rattle.events.proofs.emit.Reads as emit-reads
 
 -- src/lib.rt:208:9
 emit-requires : tie.Need-emit-requires

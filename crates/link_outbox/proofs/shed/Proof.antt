@@ -7,15 +7,6 @@ use Rattle.link_outbox.proofs.Fronts.{bounded-front, from-within, shed-
 use borrow.Author.Needs.{needs}
 use Rattle.link_outbox.proofs.shed.Statement.{statement}
 use Rattle.link_outbox.proofs.shed.Tie as tie
-use Rattle.link_outbox.proofs.shed.Reads as reads
-use Rattle.link_outbox.proofs.shed.Lts as lts
-use Rattle.parts.proofs.full_bytes.Reads as full-bytes-reads
-use Rattle.parts.proofs.full_halves.Reads as full-halves-reads
-use Rattle.parts.proofs.full_words.Reads as full-words-reads
-use Rattle.link_outbox.proofs.lower_records.Reads as lower-records-reads
-use Rattle.link_outbox.proofs.used.Reads as used-reads
-use Rattle.stores.proofs.clear.Reads as clear-reads
-use Rattle.stores.proofs.move_down.Reads as move-down-reads
 
 within : (c : tie.After-used2) → c .before .before .used .result ≤ c .used2 .result
 within c =

@@ -4,11 +4,6 @@ use Rattle.link_outbox.proofs.Sounds.{not-sound, sound-none, sound-all,
 use borrow.Author.Needs.{needs}
 use Rattle.link_outbox.proofs.sound.Statement.{statement}
 use Rattle.link_outbox.proofs.sound.Tie as tie
-use Rattle.link_outbox.proofs.sound.Reads as reads
-use Rattle.link_outbox.proofs.sound.Lts as lts
-use Rattle.link_outbox.proofs.lens_of.Reads as lens-of-reads
-use Rattle.link_outbox.proofs.falls_in.Reads as falls-in-reads
-use Rattle.parts.proofs.wide.Reads as wide-reads
 
 -- src/lib.rt:74:16
 element-copy-out-next : tie.Need-element-copy-out-next

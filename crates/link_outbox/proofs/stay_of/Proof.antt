@@ -6,11 +6,8 @@ use Rattle.outbox.specs.declared.Unacked.{Unacked}
 use Rattle.outbox.proofs.Flags.{survives-above, survives-pending, survives-unsent}
 use Rattle.link_outbox.proofs.Frees.{flag-clear, flag-set}
 use Rattle.link_outbox.proofs.Fronts.{low-below, low-upto, stay-in, stay-out}
-use borrow.Author.Needs.{needs}
 use Rattle.link_outbox.proofs.stay_of.Statement.{statement}
 use Rattle.link_outbox.proofs.stay_of.Tie as tie
-use Rattle.link_outbox.proofs.stay_of.Reads as reads
-use Rattle.link_outbox.proofs.stay_of.Lts as lts
 
 -- the record, but for its length
 abbrev u : tie.Start → Unacked

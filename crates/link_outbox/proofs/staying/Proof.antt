@@ -11,10 +11,6 @@ use Rattle.link_outbox.proofs.Fronts.{stayer-one}
 use borrow.Author.Needs.{needs}
 use Rattle.link_outbox.proofs.staying.Statement.{statement}
 use Rattle.link_outbox.proofs.staying.Tie as tie
-use Rattle.link_outbox.proofs.staying.Reads as reads
-use Rattle.link_outbox.proofs.staying.Lts as lts
-use Rattle.link_outbox.proofs.low_of.Reads as low-of-reads
-use Rattle.link_outbox.proofs.stay_of.Reads as stay-of-reads
 
 abbrev Inv-loop : tie.InvT-loop
 Inv-loop halves bytes start count ack limit sum₀ i₀ sum i = (i ≤ count) × (count ≤ 256) × (sum ≤ i) × (limit ≡ low ack) × (sum + total (stayer ack) (slice i count (seats 256 (unackedAt halves bytes))) ≡ total (stayer ack) (slice start count (seats 256 (unackedAt halves bytes))))

@@ -7,9 +7,6 @@ use Rattle.link_outbox.proofs.Sounds.{same-few, steps-more, steps-all}
 use borrow.Author.Needs.{needs}
 use Rattle.link_outbox.proofs.steps_of.Statement.{statement}
 use Rattle.link_outbox.proofs.steps_of.Tie as tie
-use Rattle.link_outbox.proofs.steps_of.Reads as reads
-use Rattle.link_outbox.proofs.steps_of.Lts as lts
-use Rattle.link_outbox.proofs.same_of.Reads as same-of-reads
 
 abbrev Inv-loop : tie.InvT-loop
 Inv-loop halves first count sum₀ i₀ sum i = (i ≤ count) × (count ≤ 256) × (first + count ≤ 4294967296) × (sum ≤ i) × (sum ≡ i → Steps halves first i)

@@ -6,16 +6,6 @@ use Rattle.link_outbox.proofs.Sweeps.{Sweeps, sweeps-none, body-within,
 use borrow.Author.Needs.{needs}
 use Rattle.link_outbox.proofs.sweep.Statement.{statement}
 use Rattle.link_outbox.proofs.sweep.Tie as tie
-use Rattle.link_outbox.proofs.sweep.Reads as reads
-use Rattle.link_outbox.proofs.sweep.Lts as lts
-use Rattle.link_outbox.proofs.count_if.Reads as count-if-reads
-use Rattle.parts.proofs.full_bytes.Reads as full-bytes-reads
-use Rattle.parts.proofs.full_halves.Reads as full-halves-reads
-use Rattle.parts.proofs.full_words.Reads as full-words-reads
-use Rattle.link_outbox.proofs.keeps.Reads as keeps-reads
-use Rattle.link_outbox.proofs.lower_if.Reads as lower-if-reads
-use Rattle.parts.proofs.size.Reads as size-reads
-use Rattle.stores.proofs.clear.Reads as clear-reads
 
 abbrev Inv-loop : tie.InvT-loop
 Inv-loop words halves₀ bytes₀ store₀ ack count k₀ to₀ from₀ i₀ halves bytes store k to from i =

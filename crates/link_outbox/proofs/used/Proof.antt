@@ -1,21 +1,18 @@
 use mathlib.Core.List.{[]}
-use mathlib.Core.Path.{_≡_, refl, ap, _∙_, sym}
+use mathlib.Core.Path.{_≡_}
 use mathlib.Core.List.{List}
 use native.Mathlib.Omega.{arith}
-use Prim.Native.Nat.{ℕ, _+_, _-_, _*_, _≤_}
-use lib.ListN.{take}
+use Prim.Native.Nat.{ℕ, _+_, _-_, _≤_}
 use lib.Seq.{slice}
 use Rattle.rules.specs.Lists.{total}
 use Rattle.outbox.specs.View.{lenU}
 use Rattle.parts.specs.Seats.{seats}
-use Rattle.parts.specs.Parts.{at, unackedAt}
+use Rattle.parts.specs.Parts.{unackedAt}
 use Rattle.link_outbox.specs.Tests.{Bounded}
 use Rattle.link_outbox.proofs.Sounds.{total-seats, total-end, take-total}
 use borrow.Author.Needs.{needs}
 use Rattle.link_outbox.proofs.used.Statement.{statement}
 use Rattle.link_outbox.proofs.used.Tie as tie
-use Rattle.link_outbox.proofs.used.Reads as reads
-use Rattle.link_outbox.proofs.used.Lts as lts
 
 abbrev Inv-loop : tie.InvT-loop
 Inv-loop halves count sum₀ i₀ sum i = Bounded halves count × (i ≤ count) × ((b : List ℕ) → sum + total lenU (slice i count (seats 256 (unackedAt halves b))) ≡ total lenU (seats count (unackedAt halves b)))

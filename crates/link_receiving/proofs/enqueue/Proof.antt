@@ -7,7 +7,7 @@ use Rattle.link_receiving.proofs.enqueue.Tie as tie
 use Rattle.link_receiving.proofs.enqueue.Reads as reads
 use Rattle.link_receiving.proofs.enqueue.Lts as lts
 use Rattle.events.proofs.request.Reads as request-reads
-use Rattle.link_codes.proofs.reading.clock_in.Reads as clock-in-reads
+use Rattle.link_codes.proofs.clock_in.Reads as clock-in-reads
 use Rattle.link_draining.proofs.carry.Reads as carry-reads
 use Rattle.link_draining.proofs.fail.Reads as fail-reads
 use Rattle.link_queue.proofs.find.Reads as find-reads

@@ -1,8 +1,7 @@
 -- `link_replays::connectivity` meets its contract, by what its tests find. Assumes nothing.
 use lib.ListN.{length}
-use mathlib.Core.Path.{_≡_, subst}
+use mathlib.Core.Path.{subst}
 use Rattle.events.specs.declared.Stop.{Stop}
-use Rattle.events.specs.declared.Stop.the-variants.{No, By}
 use Rattle.parts.specs.Parts.{parts}
 use Rattle.link_replays.specs.Connects.{Found}
 use Rattle.link_replays.proofs.Connects.{turned}

@@ -1,6 +1,5 @@
 -- `link_replays::goes` meets its contract, answer by answer. Assumes nothing.
 use mathlib.Core.Path.{sym, _∙_}
-use native.Mathlib.Omega.{arith}
 use Rattle.link_replays.proofs.Connects.{noted, may-replay, nothing-unacked, kept-back, replayed}
 use borrow.Author.Needs.{needs}
 use Rattle.link_replays.proofs.goes.Statement.{statement}

@@ -1,5 +1,5 @@
 -- `link_replays::rejection_complete` meets its contract, by the disposition. Assumes nothing.
-use mathlib.Core.Path.{_≡_, ap, _∙_}
+use mathlib.Core.Path.{ap, _∙_}
 use Rattle.parts.specs.declared.StageCodes.{StageCodes}
 use Rattle.parts.specs.Codes.{stageOf}
 use Rattle.link_replays.proofs.Asks.{is-complete, is-not-complete}

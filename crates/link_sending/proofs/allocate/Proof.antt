@@ -6,10 +6,6 @@ use Rattle.link_sending.proofs.Sends.{refused-in, joined-in, ends-at}
 use borrow.Author.Needs.{needs}
 use Rattle.link_sending.proofs.allocate.Statement.{statement}
 use Rattle.link_sending.proofs.allocate.Tie as tie
-use Rattle.link_sending.proofs.allocate.Reads as reads
-use Rattle.link_sending.proofs.allocate.Lts as lts
-use Rattle.link_outbox.proofs.append.Reads as append-reads
-use Rattle.link_outbox.proofs.used.Reads as used-reads
 
 -- src/lib.rt:48:37
 element-copy-out-if1 : tie.Need-element-copy-out-if1

@@ -5,9 +5,6 @@ use Rattle.link_sending.proofs.Sends.{short-list, short-outbound, unsou
 use borrow.Author.Needs.{needs}
 use Rattle.link_sending.proofs.enters.Statement.{statement}
 use Rattle.link_sending.proofs.enters.Tie as tie
-use Rattle.link_sending.proofs.enters.Reads as reads
-use Rattle.link_sending.proofs.enters.Lts as lts
-use Rattle.link_sound.proofs.sound.Reads as sound-reads
 
 -- src/lib.rt:23:9
 returns : tie.Need-returns

@@ -1,22 +1,8 @@
 use native.Mathlib.Omega.{arith}
-use mathlib.Core.Path.{_≡_, refl, sym, ap, _∙_, subst}
-use Rattle.events.specs.declared.Stop.{Stop}
-use Rattle.events.specs.Written.{Listed, asked}
-use Rattle.rules.specs.declared.Clock.{Clock}
-use Rattle.parts.specs.Parts.{parts, openedOf}
-use Rattle.link_sending.specs.Sends.{AllocatesIn}
 use Rattle.link_sending.proofs.Sends.{went, stopped, exact-outbox, low-generation}
 use borrow.Author.Needs.{needs}
 use Rattle.link_sending.proofs.goes.Statement.{statement}
 use Rattle.link_sending.proofs.goes.Tie as tie
-use Rattle.link_sending.proofs.goes.Reads as reads
-use Rattle.link_sending.proofs.goes.Lts as lts
-use Rattle.events.proofs.request.Reads as request-reads
-use Rattle.link_codes.proofs.reading.clock_in.Reads as clock-in-reads
-use Rattle.link_codes.proofs.plain.Reads as plain-reads
-use Rattle.link_codes.proofs.refusal.Reads as refusal-reads
-use Rattle.link_sending.proofs.allocate.Reads as allocate-reads
-use Rattle.parts.proofs.full_halves.Reads as full-halves-reads
 
 -- src/lib.rt:83:5
 full-halves-requires : tie.Need-full-halves-requires

@@ -2,11 +2,6 @@ use Rattle.link_sending.proofs.Sends.{passed, away, turned}
 use borrow.Author.Needs.{needs}
 use Rattle.link_sending.proofs.send.Statement.{statement}
 use Rattle.link_sending.proofs.send.Tie as tie
-use Rattle.link_sending.proofs.send.Reads as reads
-use Rattle.link_sending.proofs.send.Lts as lts
-use Rattle.link_codes.proofs.refusal.Reads as refusal-reads
-use Rattle.link_sending.proofs.enters.Reads as enters-reads
-use Rattle.link_sending.proofs.goes.Reads as goes-reads
 
 -- src/lib.rt:102:9
 enters-requires : tie.Need-enters-requires

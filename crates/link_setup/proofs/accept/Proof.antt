@@ -2,41 +2,28 @@ use Rattle.link_setup.proofs.Accepts.{passed, turned}
 use borrow.Author.Needs.{needs}
 use Rattle.link_setup.proofs.accept.Statement.{statement}
 use Rattle.link_setup.proofs.accept.Tie as tie
-use Rattle.link_setup.proofs.accept.Reads as reads
-use Rattle.link_setup.proofs.accept.Lts as lts
-use Rattle.link_codes.proofs.refusal.Reads as refusal-reads
-use Rattle.link_setup.proofs.accept_enters.Reads as accept-enters-reads
-use Rattle.link_setup.proofs.accepted.Reads as accepted-reads
 
--- src/lib.rt:165:9
 accept-enters-requires : tie.Need-accept-enters-requires
 accept-enters-requires c κs = search needs
 
--- src/lib.rt:167:18
 enum-known-stop : tie.Need-enum-known-stop
 enum-known-stop c = search needs
 
--- src/lib.rt:167:24
 refusal-requires : tie.Need-refusal-requires
 refusal-requires c κs = search needs
 
--- src/lib.rt:168:30
 enum-told : tie.Need-enum-told
 enum-told c = search needs
 
--- src/lib.rt:168:21
 accepted-requires : tie.Need-accepted-requires
 accepted-requires c κs = passed (c .before .before .before .before .before .before .before .before .before .before .before .before .args .words .now) (c .before .before .before .before .before .before .before .before .before .before .before .before .args .halves .now) (c .before .before .before .before .before .before .before .before .before .before .before .before .args .bytes .now) (c .before .before .before .before .before .before .before .before .before .before .before .before .args .clock .now) (c .before .before .before .before .before .before .accept-enters .ensures) (c .before .before .before .before .enum-told .given .1)
 
--- src/lib.rt:154:1
 returns : tie.Need-returns
 returns c = turned (c .before .before .before .before .before .before .before .before .before .before .args .words .now) (c .before .before .before .before .before .before .before .before .before .before .args .halves .now) (c .before .before .before .before .before .before .before .before .before .before .args .bytes .now) (c .before .before .before .before .before .before .before .before .before .before .args .clock .now) (c .before .before .before .before .before .before .before .before .before .before .args .terms) (c .before .before .before .before .before .before .before .before .before .before .args .outbound .now) (c .before .before .before .before .before .before .before .before .before .before .args .body .now) _ (c .before .before .before .before .accept-enters .ensures) (c .before .before .stop .given .1) (c .refusal .ensures)
 
--- src/lib.rt:154:1
 same-length : tie.Need-same-length
 same-length c = search needs
 
--- src/lib.rt:154:1
 returns-2 : tie.Need-returns-2
 returns-2 c = c .before .before .accepted .ensures
 

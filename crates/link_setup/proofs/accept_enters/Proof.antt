@@ -1,56 +1,41 @@
 use mathlib.Core.Path.{sym, _∙_}
 use borrow.Author.Tests.{not-true, not-false}
-use native.Mathlib.Omega.{arith}
 use Rattle.link_setup.proofs.Stages.{found-sound, never}
 use Rattle.link_setup.proofs.Accepts.{short-outbound, unsound, at-limit, set-up, not-first, may-accept}
 use borrow.Author.Needs.{needs}
 use Rattle.link_setup.proofs.accept_enters.Statement.{statement}
 use Rattle.link_setup.proofs.accept_enters.Tie as tie
-use Rattle.link_setup.proofs.accept_enters.Reads as reads
-use Rattle.link_setup.proofs.accept_enters.Lts as lts
-use Rattle.link_sound.proofs.sound.Reads as sound-reads
 
--- src/lib.rt:86:9
 returns : tie.Need-returns
 returns c = λ t. short-outbound _ _ (c .if1 .taken)
 
--- src/lib.rt:88:9
 sound-requires : tie.Need-sound-requires
 sound-requires c κs = search needs
 
--- src/lib.rt:89:9
 returns-2 : tie.Need-returns-2
 returns-2 c = λ t. unsound _ _ (c .before .before .if1 .left) (sym (c .before .sound .ensures t .is) ∙ not-true _ (c .if2 .taken))
 
--- src/lib.rt:91:42
 element-copy-out-if3 : tie.Need-element-copy-out-if3
 element-copy-out-if3 c = search needs
 
--- src/lib.rt:92:9
 returns-3 : tie.Need-returns-3
 returns-3 c = λ t. at-limit (c .before .before .before .before .before .args .words .now) (c .before .before .before .before .before .args .halves .now) (c .before .before .before .before .before .args .bytes .now) t (c .before .before .before .before .before .args .terms) (c .before .before .before .before .if1 .left) (found-sound (c .before .before .before .sound .ensures t) (not-false _ (c .before .before .if2 .left))) (c .if3 .taken)
 
--- src/lib.rt:94:8
 element-copy-out-if4 : tie.Need-element-copy-out-if4
 element-copy-out-if4 c = search needs
 
--- src/lib.rt:95:9
 returns-4 : tie.Need-returns-4
 returns-4 c = λ t. set-up (c .before .before .before .before .before .before .before .args .words .now) (c .before .before .before .before .before .before .before .args .halves .now) (c .before .before .before .before .before .before .before .args .bytes .now) t (c .before .before .before .before .before .before .before .args .terms) (c .before .before .before .before .before .before .if1 .left) (found-sound (c .before .before .before .before .before .sound .ensures t) (not-false _ (c .before .before .before .before .if2 .left))) (c .before .before .if3 .left) (c .if4 .taken)
 
--- src/lib.rt:98:9
 returns-5 : tie.Need-returns-5
 returns-5 c = λ t. may-accept (c .before .before .before .before .before .before .before .before .before .args .words .now) (c .before .before .before .before .before .before .before .before .before .args .halves .now) (c .before .before .before .before .before .before .before .before .before .args .bytes .now) t (c .before .before .before .before .before .before .before .before .before .args .terms) (c .before .before .before .before .before .before .before .before .if1 .left) (found-sound (c .before .before .before .before .before .before .before .sound .ensures t) (not-false _ (c .before .before .before .before .before .before .if2 .left))) (c .before .before .before .before .if3 .left) (c .before .before .if4 .left) (λ i. never i (not-true _ (c .if5 .taken)))
 
--- src/lib.rt:100:8
 element-copy-out-if6 : tie.Need-element-copy-out-if6
 element-copy-out-if6 c = search needs
 
--- src/lib.rt:101:9
 returns-6 : tie.Need-returns-6
 returns-6 c = λ t. not-first (c .before .before .before .before .before .before .before .before .before .before .before .args .words .now) (c .before .before .before .before .before .before .before .before .before .before .before .args .halves .now) (c .before .before .before .before .before .before .before .before .before .before .before .args .bytes .now) t (c .before .before .before .before .before .before .before .before .before .before .before .args .terms) (c .before .before .before .before .before .before .before .before .before .before .if1 .left) (found-sound (c .before .before .before .before .before .before .before .before .before .sound .ensures t) (not-false _ (c .before .before .before .before .before .before .before .before .if2 .left))) (c .before .before .before .before .before .before .if3 .left) (c .before .before .before .before .if4 .left) (not-false _ (c .before .before .if5 .left)) (c .if6 .taken)
 
--- src/lib.rt:76:1
 returns-7 : tie.Need-returns-7
 returns-7 c = λ t. may-accept (c .before .before .before .before .before .before .before .before .before .before .before .args .words .now) (c .before .before .before .before .before .before .before .before .before .before .before .args .halves .now) (c .before .before .before .before .before .before .before .before .before .before .before .args .bytes .now) t (c .before .before .before .before .before .before .before .before .before .before .before .args .terms) (c .before .before .before .before .before .before .before .before .before .before .if1 .left) (found-sound (c .before .before .before .before .before .before .before .before .before .sound .ensures t) (not-false _ (c .before .before .before .before .before .before .before .before .if2 .left))) (c .before .before .before .before .before .before .if3 .left) (c .before .before .before .before .if4 .left) (λ i. c .if6 .left)
 

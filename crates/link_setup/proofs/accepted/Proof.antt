@@ -2,38 +2,25 @@ use Rattle.link_setup.proofs.Accepts.{accepts-it}
 use borrow.Author.Needs.{needs}
 use Rattle.link_setup.proofs.accepted.Statement.{statement}
 use Rattle.link_setup.proofs.accepted.Tie as tie
-use Rattle.link_setup.proofs.accepted.Reads as reads
-use Rattle.link_setup.proofs.accepted.Lts as lts
-use Rattle.link_codes.proofs.plain.Reads as plain-reads
-use Rattle.parts.proofs.full_halves.Reads as full-halves-reads
-use Rattle.link_setup.proofs.propose.Reads as propose-reads
-use Rattle.link_setup.proofs.stage.Reads as stage-reads
 
--- src/lib.rt:146:9
 propose-requires : tie.Need-propose-requires
 propose-requires c κs = search needs
 
--- src/lib.rt:146:9
 same-length : tie.Need-same-length
 same-length c = search needs
 
--- src/lib.rt:146:9
 returns : tie.Need-returns
 returns c = c .before .before .propose .ensures
 
--- src/lib.rt:148:5
 full-halves-requires : tie.Need-full-halves-requires
 full-halves-requires c κs = search needs
 
--- src/lib.rt:149:5
 stage-requires : tie.Need-stage-requires
 stage-requires c κs = search needs
 
--- src/lib.rt:150:5
 plain-requires : tie.Need-plain-requires
 plain-requires c κs = search needs
 
--- src/lib.rt:133:1
 returns-2 : tie.Need-returns-2
 returns-2 c = accepts-it (c .before .before .before .before .before .before .before .before .before .args .words .now) (c .before .before .before .before .before .before .before .before .before .args .halves .now) (c .before .before .before .before .before .before .before .before .before .args .bytes .now) (c .before .before .before .before .before .before .before .before .before .args .clock .now) (c .before .before .before .before .before .before .before .before .before .args .terms) (c .before .before .before .before .before .before .before .before .before .args .outbound .now) (c .before .before .before .before .before .before .before .before .before .args .body .now) (c .before .before .before .before .before .before .before .before .before .pre) (c .before .before .before .before .full-halves .ensures) (c .before .before .before .before .before .before .if1 .left) (c .before .stage .ensures) (c .plain .ensures)
 

@@ -6,62 +6,43 @@ use Rattle.link_setup.proofs.Retires.{forgets-in}
 use borrow.Author.Needs.{needs}
 use Rattle.link_setup.proofs.forget.Statement.{statement}
 use Rattle.link_setup.proofs.forget.Tie as tie
-use Rattle.link_setup.proofs.forget.Reads as reads
-use Rattle.link_setup.proofs.forget.Lts as lts
-use Rattle.link_outbox.proofs.used.Reads as used-reads
-use Rattle.parts.proofs.full_halves.Reads as full-halves-reads
-use Rattle.link_sound.proofs.sized.Reads as sized-reads
-use Rattle.stores.proofs.clear.Reads as clear-reads
 
--- src/lib.rt:281:5
 full-halves-requires : tie.Need-full-halves-requires
 full-halves-requires c κs = search needs
 
--- src/lib.rt:282:5
 sized-requires : tie.Need-sized-requires
 sized-requires c κs = search needs
 
--- src/lib.rt:283:41
 element-copy-out-used : tie.Need-element-copy-out-used
 element-copy-out-used c = search needs
 
--- src/lib.rt:283:9
 used-requires : tie.Need-used-requires
 used-requires c κs = bounded (c .before .before .before .before .before .before .before .args .words .now) (c .before .before .before .before .before .before .before .args .halves .now) (c .before .before .before .before .before .before .before .args .bytes .now) (c .before .before .before .before .before .before .before .pre .few) (c .before .before .before .before .before .before .before .pre .small)
 
--- src/lib.rt:284:5
 clear-requires : tie.Need-clear-requires
 clear-requires c κs = (omega arith, omega (arith, c .before .used .ensures (c .before .before .before .before .before .before .before .before .before .args .bytes .now), ends-at (c .before .before .before .before .before .before .before .before .before .args .words .now) (c .before .before .before .before .before .before .before .before .before .args .halves .now) (c .before .before .before .before .before .before .before .before .before .args .bytes .now) (c .before .before .before .before .before .before .before .before .before .pre .few), c .before .before .before .before .before .before .before .before .before .pre .small, c .before .before .before .before .before .before .before .before .before .pre .room))
 
--- src/lib.rt:285:5
 element-write-words : tie.Need-element-write-words
 element-write-words c = search needs
 
--- src/lib.rt:286:5
 element-write-words-2 : tie.Need-element-write-words-2
 element-write-words-2 c = search needs
 
--- src/lib.rt:287:5
 element-write-words-3 : tie.Need-element-write-words-3
 element-write-words-3 c = search needs
 
--- src/lib.rt:288:22
 element-copy-out-generation : tie.Need-element-copy-out-generation
 element-copy-out-generation c = search needs
 
--- src/lib.rt:289:5
 element-write-halves : tie.Need-element-write-halves
 element-write-halves c = search needs
 
--- src/lib.rt:290:5
 element-write-halves-2 : tie.Need-element-write-halves-2
 element-write-halves-2 c = search needs
 
--- src/lib.rt:277:1
 same-length : tie.Need-same-length
 same-length c = search needs
 
--- src/lib.rt:277:1
 returns : tie.Need-returns
 returns c = record { forgets = λ t. forgets-in (c .before .before .before .before .before .before .before .before .before .before .before .before .before .args .words .now) (c .before .before .before .before .before .before .before .before .before .before .before .before .before .args .halves .now) (c .before .before .before .before .before .before .before .before .before .before .before .before .before .args .bytes .now) (c .before .before .before .before .before .before .before .before .before .before .before .before .before .args .outbound .now) _ (c .before .before .before .before .before .before .before .before .before .before .before .before .before .pre) (c .before .before .before .before .before .before .before .before .sized .ensures .words) (c .before .before .before .before .before .before .before .before .before .before .full-halves .ensures) (c .before .before .before .before .before .before .before .before .sized .ensures .bytes) (c .before .before .before .before .before .used .result) (c .before .before .before .before .before .used .ensures (c .before .before .before .before .before .before .before .before .before .before .before .before .before .args .bytes .now) ∙ ends-at (c .before .before .before .before .before .before .before .before .before .before .before .before .before .args .words .now) (c .before .before .before .before .before .before .before .before .before .before .before .before .before .args .halves .now) (c .before .before .before .before .before .before .before .before .before .before .before .before .before .args .bytes .now) (c .before .before .before .before .before .before .before .before .before .before .before .before .before .pre .few)) (c .before .before .before .clear .ensures) t }
 

@@ -2,45 +2,31 @@ use Rattle.link_setup.proofs.Rejects.{passed, turned}
 use borrow.Author.Needs.{needs}
 use Rattle.link_setup.proofs.reject.Statement.{statement}
 use Rattle.link_setup.proofs.reject.Tie as tie
-use Rattle.link_setup.proofs.reject.Reads as reads
-use Rattle.link_setup.proofs.reject.Lts as lts
-use Rattle.link_codes.proofs.refusal.Reads as refusal-reads
-use Rattle.link_setup.proofs.reject_enters.Reads as reject-enters-reads
-use Rattle.link_setup.proofs.send_reject.Reads as send-reject-reads
 
--- src/lib.rt:247:9
 reject-enters-requires : tie.Need-reject-enters-requires
 reject-enters-requires c κs = search needs
 
--- src/lib.rt:249:18
 enum-known-stop : tie.Need-enum-known-stop
 enum-known-stop c = search needs
 
--- src/lib.rt:249:24
 refusal-requires : tie.Need-refusal-requires
 refusal-requires c κs = search needs
 
--- src/lib.rt:250:33
 enum-told : tie.Need-enum-told
 enum-told c = search needs
 
--- src/lib.rt:250:21
 send-reject-requires : tie.Need-send-reject-requires
 send-reject-requires c κs = passed (c .before .before .before .before .before .before .before .before .before .before .before .before .before .args .words .now) (c .before .before .before .before .before .before .before .before .before .before .before .before .before .args .halves .now) (c .before .before .before .before .before .before .before .before .before .before .before .before .before .args .bytes .now) (c .before .before .before .before .before .before .before .before .before .before .before .before .before .args .clock .now) (c .before .before .before .before .before .before .before .reject-enters .ensures) (c .before .before .before .before .before .enum-told .given .1)
 
--- src/lib.rt:237:1
 returns : tie.Need-returns
 returns c = turned (c .before .before .before .before .before .before .before .before .before .before .args .words .now) (c .before .before .before .before .before .before .before .before .before .before .args .halves .now) (c .before .before .before .before .before .before .before .before .before .before .args .bytes .now) (c .before .before .before .before .before .before .before .before .before .before .args .clock .now) (c .before .before .before .before .before .before .before .before .before .before .args .list .now) (c .before .before .before .before .before .before .before .before .before .before .args .outbound .now) _ (c .before .before .before .before .reject-enters .ensures) (c .before .before .stop .given .1) (c .refusal .ensures)
 
--- src/lib.rt:237:1
 same-length : tie.Need-same-length
 same-length c = search needs
 
--- src/lib.rt:237:1
 same-length-2 : tie.Need-same-length-2
 same-length-2 c = search needs
 
--- src/lib.rt:237:1
 returns-2 : tie.Need-returns-2
 returns-2 c = c .before .before .before .before .send-reject .ensures
 

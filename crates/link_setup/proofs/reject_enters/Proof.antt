@@ -5,35 +5,25 @@ use Rattle.link_setup.proofs.Rejects.{short-list, short-outbound, unsou
 use borrow.Author.Needs.{needs}
 use Rattle.link_setup.proofs.reject_enters.Statement.{statement}
 use Rattle.link_setup.proofs.reject_enters.Tie as tie
-use Rattle.link_setup.proofs.reject_enters.Reads as reads
-use Rattle.link_setup.proofs.reject_enters.Lts as lts
-use Rattle.link_sound.proofs.sound.Reads as sound-reads
 
--- src/lib.rt:185:9
 returns : tie.Need-returns
 returns c = λ t. short-list _ (c .if1 .taken)
 
--- src/lib.rt:188:9
 returns-2 : tie.Need-returns-2
 returns-2 c = λ t. short-outbound _ (c .if2 .taken)
 
--- src/lib.rt:190:9
 sound-requires : tie.Need-sound-requires
 sound-requires c κs = search needs
 
--- src/lib.rt:191:9
 returns-3 : tie.Need-returns-3
 returns-3 c = λ t. unsound _ (c .before .before .before .if1 .left) (c .before .before .if2 .left) (sym (c .before .sound .ensures t .is) ∙ not-true _ (c .if3 .taken))
 
--- src/lib.rt:193:42
 element-copy-out-if4 : tie.Need-element-copy-out-if4
 element-copy-out-if4 c = search needs
 
--- src/lib.rt:194:9
 returns-4 : tie.Need-returns-4
 returns-4 c = λ t. at-limit (c .before .before .before .before .before .before .args .words .now) (c .before .before .before .before .before .before .args .halves .now) (c .before .before .before .before .before .before .args .bytes .now) t (c .before .before .before .before .before .if1 .left) (c .before .before .before .before .if2 .left) (found-sound (c .before .before .before .sound .ensures t) (not-false _ (c .before .before .if3 .left))) (c .if4 .taken)
 
--- src/lib.rt:175:1
 returns-5 : tie.Need-returns-5
 returns-5 c = λ t. may-reject (c .before .before .before .before .before .before .args .words .now) (c .before .before .before .before .before .before .args .halves .now) (c .before .before .before .before .before .before .args .bytes .now) t (c .before .before .before .before .before .if1 .left) (c .before .before .before .before .if2 .left) (found-sound (c .before .before .before .sound .ensures t) (not-false _ (c .before .before .if3 .left))) (c .if4 .left)
 

@@ -1,16 +1,11 @@
 use mathlib.Core.Path.{refl}
 use borrow.Author.Tests.{not-true, not-false}
-use borrow.Author.Needs.{needs}
 use Rattle.link_setup.proofs.retains.Statement.{statement}
 use Rattle.link_setup.proofs.retains.Tie as tie
-use Rattle.link_setup.proofs.retains.Reads as reads
-use Rattle.link_setup.proofs.retains.Lts as lts
 
--- src/lib.rt:261:9
 returns : tie.Need-returns
 returns c = rw (not-true (c .before .args .retain) (c .if1 .taken)) refl
 
--- src/lib.rt:257:1
 returns-2 : tie.Need-returns-2
 returns-2 c = rw (not-false (c .before .args .retain) (c .if1 .left)) refl
 

@@ -5,84 +5,58 @@ use Rattle.link_setup.proofs.Retires.{short-outbound, short-queue, unso
 use borrow.Author.Needs.{needs}
 use Rattle.link_setup.proofs.retire.Statement.{statement}
 use Rattle.link_setup.proofs.retire.Tie as tie
-use Rattle.link_setup.proofs.retire.Reads as reads
-use Rattle.link_setup.proofs.retire.Lts as lts
-use Rattle.link_codes.proofs.plain.Reads as plain-reads
-use Rattle.link_codes.proofs.refusal.Reads as refusal-reads
-use Rattle.link_setup.proofs.forget.Reads as forget-reads
-use Rattle.link_setup.proofs.retains.Reads as retains-reads
-use Rattle.link_setup.proofs.retired.Reads as retired-reads
-use Rattle.link_sound.proofs.sound.Reads as sound-reads
 
--- src/lib.rt:316:9
 refusal-requires : tie.Need-refusal-requires
 refusal-requires c κs = search needs
 
--- src/lib.rt:316:9
 returns : tie.Need-returns
 returns c = short-outbound (c .before .before .before .before .args .retain) _ (c .before .before .before .before .args .outbound .now) (c .before .before .before .before .args .queue .now) (c .before .if1 .taken) (c .refusal .ensures)
 
--- src/lib.rt:319:9
 refusal-requires-2 : tie.Need-refusal-requires-2
 refusal-requires-2 c κs = search needs
 
--- src/lib.rt:319:9
 returns-2 : tie.Need-returns-2
 returns-2 c = short-queue (c .before .before .before .before .before .args .retain) _ (c .before .before .before .before .before .args .outbound .now) (c .before .before .before .before .before .args .queue .now) (c .before .if2 .taken) (c .refusal2 .ensures)
 
--- src/lib.rt:321:9
 sound-requires : tie.Need-sound-requires
 sound-requires c κs = search needs
 
--- src/lib.rt:322:9
 refusal-requires-3 : tie.Need-refusal-requires-3
 refusal-requires-3 c κs = search needs
 
--- src/lib.rt:322:9
 returns-3 : tie.Need-returns-3
 returns-3 c = unsound (c .before .before .before .before .before .before .before .before .before .before .args .retain) _ (c .before .before .before .before .before .before .before .before .before .before .args .outbound .now) (c .before .before .before .before .before .before .before .before .before .before .args .queue .now) (c .before .before .before .before .before .before .before .if1 .left) (c .before .before .before .before .before .before .if2 .left) (sym (c .before .before .sound .ensures (c .before .before .before .before .before .before .before .before .before .before .args .clock .now) .is) ∙ not-true _ (c .before .if3 .taken)) (c .refusal3 .ensures)
 
--- src/lib.rt:324:32
 element-copy-out-retains : tie.Need-element-copy-out-retains
 element-copy-out-retains c = search needs
 
--- src/lib.rt:324:9
 retains-requires : tie.Need-retains-requires
 retains-requires c κs = search needs
 
--- src/lib.rt:325:5
 retired-requires : tie.Need-retired-requires
 retired-requires c κs = record { checked = λ t. found-sound (c .before .before .before .before .before .before .before .sound .ensures t) (not-false _ (c .before .before .before .before .before .before .if3 .left)); room = c .before .before .before .before .before .before .before .before .before .before .before .if2 .left }
 
--- src/lib.rt:327:9
 plain-requires : tie.Need-plain-requires
 plain-requires c κs = search needs
 
--- src/lib.rt:327:9
 same-length : tie.Need-same-length
 same-length c = search needs
 
--- src/lib.rt:327:9
 returns-4 : tie.Need-returns-4
 returns-4 c = keeps (c .before .before .before .before .before .before .before .before .before .before .before .before .before .before .before .before .before .before .before .before .args .retain) (c .before .before .before .before .before .before .before .before .before .before .before .before .before .before .before .before .before .before .before .before .args .words .now) (c .before .before .before .before .before .before .before .before .before .before .before .before .before .before .before .before .before .before .before .before .args .halves .now) (c .before .before .before .before .before .before .before .before .before .before .before .before .before .before .before .before .before .before .before .before .args .bytes .now) (c .before .before .before .before .before .before .before .before .before .before .before .before .before .before .before .before .before .before .before .before .args .clock .now) (c .before .before .before .before .before .before .before .before .before .before .before .before .before .before .before .before .before .before .before .before .args .outbound .now) (c .before .before .before .before .before .before .before .before .before .before .before .before .before .before .before .before .before .before .before .before .args .queue .now) (c .before .before .before .before .before .before .before .before .before .before .before .before .before .before .before .before .before .if1 .left) (c .before .before .before .before .before .before .before .before .before .before .before .before .before .before .before .before .if2 .left) (found-sound (c .before .before .before .before .before .before .before .before .before .before .before .before .sound .ensures (c .before .before .before .before .before .before .before .before .before .before .before .before .before .before .before .before .before .before .before .before .args .clock .now)) (not-false _ (c .before .before .before .before .before .before .before .before .before .before .before .if3 .left))) (c .before .before .before .before .retired .ensures) (c .before .before .before .before .before .before .before .before .before .retains .ensures) (c .before .if4 .taken) (c .plain .ensures)
 
--- src/lib.rt:329:5
 forget-requires : tie.Need-forget-requires
 forget-requires c κs = left-exact (c .before .before .before .before .before .before .before .before .before .before .before .before .before .before .before .before .before .before .before .before .before .before .before .args .retain) (c .before .before .before .before .before .before .before .before .before .before .before .before .before .before .before .before .before .before .before .before .before .before .before .args .words .now) (c .before .before .before .before .before .before .before .before .before .before .before .before .before .before .before .before .before .before .before .before .before .before .before .args .halves .now) (c .before .before .before .before .before .before .before .before .before .before .before .before .before .before .before .before .before .before .before .before .before .before .before .args .bytes .now) (c .before .before .before .before .before .before .before .before .before .before .before .before .before .before .before .before .before .before .before .before .before .before .before .args .clock .now) (c .before .before .before .before .before .before .before .before .before .before .before .before .before .before .before .before .before .before .before .before .before .before .before .args .outbound .now) (c .before .before .before .before .before .before .before .before .before .before .before .before .before .before .before .before .before .before .before .before .before .before .before .args .queue .now) (c .before .before .before .before .before .before .before .before .before .before .before .before .before .before .before .before .before .before .before .before .if1 .left) (c .before .before .before .before .before .before .before .before .before .before .before .before .before .before .before .before .before .before .before .if2 .left) (found-sound (c .before .before .before .before .before .before .before .before .before .before .before .before .before .before .before .sound .ensures (c .before .before .before .before .before .before .before .before .before .before .before .before .before .before .before .before .before .before .before .before .before .before .before .args .clock .now)) (not-false _ (c .before .before .before .before .before .before .before .before .before .before .before .before .before .before .if3 .left))) (c .before .before .before .before .before .before .before .retired .ensures)
 
--- src/lib.rt:330:5
 plain-requires-2 : tie.Need-plain-requires-2
 plain-requires-2 c κs = search needs
 
--- src/lib.rt:304:1
 same-length-2 : tie.Need-same-length-2
 same-length-2 c = search needs
 
--- src/lib.rt:304:1
 same-length-3 : tie.Need-same-length-3
 same-length-3 c = search needs
 
--- src/lib.rt:304:1
 returns-5 : tie.Need-returns-5
 returns-5 c = forgets (c .before .before .before .before .before .before .before .before .before .before .before .before .before .before .before .before .before .before .before .before .before .before .before .before .before .before .before .args .retain) (c .before .before .before .before .before .before .before .before .before .before .before .before .before .before .before .before .before .before .before .before .before .before .before .before .before .before .before .args .words .now) (c .before .before .before .before .before .before .before .before .before .before .before .before .before .before .before .before .before .before .before .before .before .before .before .before .before .before .before .args .halves .now) (c .before .before .before .before .before .before .before .before .before .before .before .before .before .before .before .before .before .before .before .before .before .before .before .before .before .before .before .args .bytes .now) (c .before .before .before .before .before .before .before .before .before .before .before .before .before .before .before .before .before .before .before .before .before .before .before .before .before .before .before .args .clock .now) (c .before .before .before .before .before .before .before .before .before .before .before .before .before .before .before .before .before .before .before .before .before .before .before .before .before .before .before .args .outbound .now) (c .before .before .before .before .before .before .before .before .before .before .before .before .before .before .before .before .before .before .before .before .before .before .before .before .before .before .before .args .queue .now) (c .before .before .before .before .before .before .before .before .before .before .before .before .before .before .before .before .before .before .before .before .before .before .before .before .if1 .left) (c .before .before .before .before .before .before .before .before .before .before .before .before .before .before .before .before .before .before .before .before .before .before .before .if2 .left) (found-sound (c .before .before .before .before .before .before .before .before .before .before .before .before .before .before .before .before .before .before .before .sound .ensures (c .before .before .before .before .before .before .before .before .before .before .before .before .before .before .before .before .before .before .before .before .before .before .before .before .before .before .before .args .clock .now)) (not-false _ (c .before .before .before .before .before .before .before .before .before .before .before .before .before .before .before .before .before .before .if3 .left))) (c .before .before .before .before .before .before .before .before .before .before .before .retired .ensures) (c .before .before .before .before .before .before .before .before .before .before .before .before .before .before .before .before .retains .ensures) (c .before .before .before .before .before .before .before .before .if4 .left) (c .before .before .before .forget .ensures) (c .plain2 .ensures)
 

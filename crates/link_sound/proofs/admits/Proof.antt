@@ -3,8 +3,6 @@ use Rattle.stores.proofs.Chains.{le-skip, le-stop, lt-skip, lt-stop}
 use borrow.Author.Needs.{needs}
 use Rattle.link_sound.proofs.admits.Statement.{statement}
 use Rattle.link_sound.proofs.admits.Tie as tie
-use Rattle.link_sound.proofs.admits.Reads as reads
-use Rattle.link_sound.proofs.admits.Lts as lts
 
 -- src/lib.rt:52:9
 returns : tie.Need-returns

@@ -4,9 +4,6 @@ use Rattle.link_sound.proofs.Sounds.{disposition-good, disposition-bad}
 use borrow.Author.Needs.{needs}
 use Rattle.link_sound.proofs.disposition_of.Statement.{statement}
 use Rattle.link_sound.proofs.disposition_of.Tie as tie
-use Rattle.link_sound.proofs.disposition_of.Reads as reads
-use Rattle.link_sound.proofs.disposition_of.Lts as lts
-use Rattle.link_sound.proofs.good_codes.Reads as good-codes-reads
 
 -- src/lib.rt:164:8
 good-codes-requires : tie.Need-good-codes-requires

@@ -3,8 +3,6 @@ use Rattle.link_sound.proofs.Sounds.{bad-setup, bad-mode, waits, bad-in
 use borrow.Author.Needs.{needs}
 use Rattle.link_sound.proofs.good_codes.Statement.{statement}
 use Rattle.link_sound.proofs.good_codes.Tie as tie
-use Rattle.link_sound.proofs.good_codes.Reads as reads
-use Rattle.link_sound.proofs.good_codes.Lts as lts
 
 -- src/lib.rt:145:17
 element-copy-out-setup : tie.Need-element-copy-out-setup

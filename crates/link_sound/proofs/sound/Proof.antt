@@ -4,15 +4,6 @@ use Rattle.link_sound.proofs.Sounds.{no-outbox, no-queue, no-acks, size
 use borrow.Author.Needs.{needs}
 use Rattle.link_sound.proofs.sound.Statement.{statement}
 use Rattle.link_sound.proofs.sound.Tie as tie
-use Rattle.link_sound.proofs.sound.Reads as reads
-use Rattle.link_sound.proofs.sound.Lts as lts
-use Rattle.link_outbox.proofs.sound.Reads as sound-reads
-use Rattle.link_sound.proofs.disposition_of.Reads as disposition-of-reads
-use Rattle.link_sound.proofs.sized.Reads as sized-reads
-use Rattle.link_sound.proofs.sound_acks.Reads as sound-acks-reads
-use Rattle.link_sound.proofs.sound_queue.Reads as sound-queue-reads
-use Rattle.peer_session.proofs.handoff_length.Reads as handoff-length-reads
-use Rattle.peer_session.proofs.sound_sizes.Reads as sound-sizes-reads
 
 -- src/lib.rt:175:5
 sized-requires : tie.Need-sized-requires

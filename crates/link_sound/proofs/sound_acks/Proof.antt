@@ -6,11 +6,6 @@ use Rattle.link_numbers.proofs.Asked.{tail-ascends}
 use borrow.Author.Needs.{needs}
 use Rattle.link_sound.proofs.sound_acks.Statement.{statement}
 use Rattle.link_sound.proofs.sound_acks.Tie as tie
-use Rattle.link_sound.proofs.sound_acks.Reads as reads
-use Rattle.link_sound.proofs.sound_acks.Lts as lts
-use Rattle.link_numbers.proofs.ascends.Reads as ascends-reads
-use Rattle.link_numbers.proofs.at_most.Reads as at-most-reads
-use Rattle.link_numbers.proofs.rises.Reads as rises-reads
 
 -- src/lib.rt:119:19
 element-copy-out-waiting : tie.Need-element-copy-out-waiting

@@ -4,9 +4,6 @@ use Rattle.stores.proofs.Chains.{le-skip, le-stop}
 use borrow.Author.Needs.{needs}
 use Rattle.link_sound.proofs.sound_queue.Statement.{statement}
 use Rattle.link_sound.proofs.sound_queue.Tie as tie
-use Rattle.link_sound.proofs.sound_queue.Reads as reads
-use Rattle.link_sound.proofs.sound_queue.Lts as lts
-use Rattle.link_sound.proofs.sound_queued.Reads as sound-queued-reads
 
 -- src/lib.rt:93:20
 element-copy-out-messages : tie.Need-element-copy-out-messages

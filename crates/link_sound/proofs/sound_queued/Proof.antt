@@ -15,10 +15,6 @@ use Rattle.link_sound.proofs.Sounds.{frames-on, frames-not, frame-teste
 use borrow.Author.Needs.{needs}
 use Rattle.link_sound.proofs.sound_queued.Statement.{statement}
 use Rattle.link_sound.proofs.sound_queued.Tie as tie
-use Rattle.link_sound.proofs.sound_queued.Reads as reads
-use Rattle.link_sound.proofs.sound_queued.Lts as lts
-use Rattle.link_sound.proofs.admits.Reads as admits-reads
-use Rattle.parts.proofs.wide.Reads as wide-reads
 
 abbrev Inv-loop : tie.InvT-loop
 Inv-loop words halves bytes count size body last₀ sum₀ i₀ last sum i =

@@ -5,27 +5,19 @@ use Rattle.link_starts.proofs.Handoffs.{flag-there, flag-gone, within-f
 use borrow.Author.Needs.{needs}
 use Rattle.link_starts.proofs.agrees.Statement.{statement}
 use Rattle.link_starts.proofs.agrees.Tie as tie
-use Rattle.link_starts.proofs.agrees.Reads as reads
-use Rattle.link_starts.proofs.agrees.Lts as lts
-use Rattle.link_starts.proofs.same_handoff.Reads as same-handoff-reads
 
--- src/lib.rt:106:8
 element-copy-out-if1 : tie.Need-element-copy-out-if1
 element-copy-out-if1 c = search needs
 
--- src/lib.rt:107:9
 returns : tie.Need-returns
 returns c = none-there (handoffIn (c .before .before .before .args .words .now) (c .before .before .before .args .bytes .now)) (c .before .before .before .args .given) (c .before .before .before .args .body .now) (flag-gone _ (c .if1 .taken))
 
--- src/lib.rt:110:9
 returns-2 : tie.Need-returns-2
 returns-2 c = none-given (handoffIn (c .before .before .before .before .before .args .words .now) (c .before .before .before .before .before .args .bytes .now)) (c .before .before .before .before .before .args .given) (c .before .before .before .before .before .args .body .now) (flag-there _ (c .before .before .if1 .left)) (not-true _ (c .if2 .taken))
 
--- src/lib.rt:112:5
 same-handoff-requires : tie.Need-same-handoff-requires
 same-handoff-requires c κs = within-four (c .before .before .before .before .before .args .words .now) (c .before .before .before .before .before .args .bytes .now) (flag-there _ (c .before .before .if1 .left)) (c .before .before .before .before .before .pre)
 
--- src/lib.rt:102:1
 returns-3 : tie.Need-returns-3
 returns-3 c = both (handoffIn (c .before .before .before .before .before .before .args .words .now) (c .before .before .before .before .before .before .args .bytes .now)) (c .before .before .before .before .before .before .args .given) (c .before .before .before .before .before .before .args .body .now) (flag-there _ (c .before .before .before .if1 .left)) (not-false _ (c .before .if2 .left)) (c .same-handoff .ensures)
 

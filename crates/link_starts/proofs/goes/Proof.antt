@@ -4,47 +4,31 @@ use Rattle.link_starts.proofs.Restores.{taking-in, handed-small, other-
 use borrow.Author.Needs.{needs}
 use Rattle.link_starts.proofs.goes.Statement.{statement}
 use Rattle.link_starts.proofs.goes.Tie as tie
-use Rattle.link_starts.proofs.goes.Reads as reads
-use Rattle.link_starts.proofs.goes.Lts as lts
-use Rattle.link_codes.proofs.plain.Reads as plain-reads
-use Rattle.link_codes.proofs.refusal.Reads as refusal-reads
-use Rattle.link_starts.proofs.agrees.Reads as agrees-reads
-use Rattle.link_starts.proofs.hand.Reads as hand-reads
-use Rattle.link_starts.proofs.take.Reads as take-reads
 
--- src/lib.rt:205:5
 take-requires : tie.Need-take-requires
 take-requires c κs = taking-in (c .before .before .before .before .before .before .before .before .before .args .«record») (c .before .before .before .before .before .before .before .before .before .args .numbers .now) (c .before .before .before .before .before .before .before .before .before .args .lengths .now) (c .before .before .before .before .before .before .before .before .before .args .bodies .now) (c .before .before .before .before .before .before .before .before .before .args .given) (c .before .before .before .before .before .before .before .before .before .args .body .now) (c .before .before .before .before .before .before .before .before .before .args .words .now) (c .before .before .before .before .before .before .before .before .before .args .halves .now) (c .before .before .before .before .before .before .before .before .before .args .bytes .now) (c .before .before .before .before .before .before .before .before .before .args .clock .now) (c .before .before .before .before .before .before .before .before .before .args .outbound .now) (c .before .before .before .before .before .before .before .before .before .pre)
 
--- src/lib.rt:215:9
 agrees-requires : tie.Need-agrees-requires
 agrees-requires c κs = handed-small (c .before .before .before .before .before .before .before .before .before .before .before .before .before .before .args .«record») (c .before .before .before .before .before .before .before .before .before .before .before .before .before .before .args .numbers .now) (c .before .before .before .before .before .before .before .before .before .before .before .before .before .before .args .lengths .now) (c .before .before .before .before .before .before .before .before .before .before .before .before .before .before .args .bodies .now) (c .before .before .before .before .before .before .before .before .before .before .before .before .before .before .args .given) (c .before .before .before .before .before .before .before .before .before .before .before .before .before .before .args .body .now) (c .before .before .before .before .before .before .before .before .before .before .before .before .before .before .args .words .now) (c .before .before .before .before .before .before .before .before .before .before .before .before .before .before .args .halves .now) (c .before .before .before .before .before .before .before .before .before .before .before .before .before .before .args .bytes .now) (c .before .before .before .before .before .before .before .before .before .before .before .before .before .before .args .clock .now) (c .before .before .before .before .before .before .before .before .before .before .before .before .before .before .args .outbound .now) (c .before .before .before .before .before .before .before .before .before .before .before .before .before .before .pre) (c .before .before .before .before .take .ensures)
 
--- src/lib.rt:216:9
 refusal-requires : tie.Need-refusal-requires
 refusal-requires c κs = search needs
 
--- src/lib.rt:216:9
 same-length : tie.Need-same-length
 same-length c = search needs
 
--- src/lib.rt:216:9
 returns : tie.Need-returns
 returns c = other-handoff (c .before .before .before .before .before .before .before .before .before .before .before .before .before .before .before .before .before .args .«record») (c .before .before .before .before .before .before .before .before .before .before .before .before .before .before .before .before .before .args .numbers .now) (c .before .before .before .before .before .before .before .before .before .before .before .before .before .before .before .before .before .args .lengths .now) (c .before .before .before .before .before .before .before .before .before .before .before .before .before .before .before .before .before .args .bodies .now) (c .before .before .before .before .before .before .before .before .before .before .before .before .before .before .before .before .before .args .given) (c .before .before .before .before .before .before .before .before .before .before .before .before .before .before .before .before .before .args .body .now) (c .before .before .before .before .before .before .before .before .before .before .before .before .before .before .before .before .before .args .words .now) (c .before .before .before .before .before .before .before .before .before .before .before .before .before .before .before .before .before .args .halves .now) (c .before .before .before .before .before .before .before .before .before .before .before .before .before .before .before .before .before .args .bytes .now) (c .before .before .before .before .before .before .before .before .before .before .before .before .before .before .before .before .before .args .clock .now) (c .before .before .before .before .before .before .before .before .before .before .before .before .before .before .before .before .before .args .outbound .now) (c .before .before .before .before .before .before .before .before .before .before .before .before .before .before .before .before .before .pre) (c .before .before .before .before .before .before .before .take .ensures) (sym (c .before .before .agrees .ensures) ∙ not-true _ (c .before .if1 .taken)) (c .refusal .ensures)
 
--- src/lib.rt:218:5
 hand-requires : tie.Need-hand-requires
 hand-requires c κs = search needs
 
--- src/lib.rt:219:5
 plain-requires : tie.Need-plain-requires
 plain-requires c κs = search needs
 
--- src/lib.rt:189:1
 same-length-2 : tie.Need-same-length-2
 same-length-2 c = search needs
 
--- src/lib.rt:189:1
 returns-2 : tie.Need-returns-2
 returns-2 c = goes-in (c .before .before .before .before .before .before .before .before .before .before .before .before .before .before .before .before .before .before .before .before .args .«record») (c .before .before .before .before .before .before .before .before .before .before .before .before .before .before .before .before .before .before .before .before .args .numbers .now) (c .before .before .before .before .before .before .before .before .before .before .before .before .before .before .before .before .before .before .before .before .args .lengths .now) (c .before .before .before .before .before .before .before .before .before .before .before .before .before .before .before .before .before .before .before .before .args .bodies .now) (c .before .before .before .before .before .before .before .before .before .before .before .before .before .before .before .before .before .before .before .before .args .given) (c .before .before .before .before .before .before .before .before .before .before .before .before .before .before .before .before .before .before .before .before .args .body .now) (c .before .before .before .before .before .before .before .before .before .before .before .before .before .before .before .before .before .before .before .before .args .words .now) (c .before .before .before .before .before .before .before .before .before .before .before .before .before .before .before .before .before .before .before .before .args .halves .now) (c .before .before .before .before .before .before .before .before .before .before .before .before .before .before .before .before .before .before .before .before .args .bytes .now) (c .before .before .before .before .before .before .before .before .before .before .before .before .before .before .before .before .before .before .before .before .args .clock .now) (c .before .before .before .before .before .before .before .before .before .before .before .before .before .before .before .before .before .before .before .before .args .outbound .now) (c .before .before .before .before .before .before .before .before .before .before .before .before .before .before .before .before .before .before .before .before .pre) (c .before .before .before .before .before .before .before .before .before .before .take .ensures) (sym (c .before .before .before .before .before .agrees .ensures) ∙ not-false _ (c .before .before .before .before .if1 .left)) (c .before .hand .ensures) (c .plain .ensures)
 

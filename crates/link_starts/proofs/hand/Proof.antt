@@ -1,67 +1,46 @@
-use mathlib.Core.Path.{_≡_, sym, ap, _∙_, subst}
-use mathlib.Core.List.{List}
-use Prim.Native.Nat.{ℕ}
 use native.Mathlib.Omega.{arith}
 use borrow.Author.Tests.{not-true, not-false}
 use Rattle.link_starts.proofs.Handoffs.{hands-none, hands-at, short-body}
 use borrow.Author.Needs.{needs}
 use Rattle.link_starts.proofs.hand.Statement.{statement}
 use Rattle.link_starts.proofs.hand.Tie as tie
-use Rattle.link_starts.proofs.hand.Reads as reads
-use Rattle.link_starts.proofs.hand.Lts as lts
-use Rattle.link_sound.proofs.sized.Reads as sized-reads
-use Rattle.link_starts.proofs.flag_byte.Reads as flag-byte-reads
-use Rattle.stores.proofs.copy_in.Reads as copy-in-reads
 
--- src/lib.rt:129:5
 sized-requires : tie.Need-sized-requires
 sized-requires c κs = search needs
 
--- src/lib.rt:131:9
 element-write-bytes : tie.Need-element-write-bytes
 element-write-bytes c = search needs
 
--- src/lib.rt:132:9
 returns : tie.Need-returns
 returns c = hands-none _ _ _ _ (c .before .before .sized .ensures .words) (c .before .before .sized .ensures .bytes) (not-true _ (c .if1 .taken))
 
--- src/lib.rt:134:9
 flag-byte-requires : tie.Need-flag-byte-requires
 flag-byte-requires c κs = search needs
 
--- src/lib.rt:135:9
 flag-byte-requires-2 : tie.Need-flag-byte-requires-2
 flag-byte-requires-2 c κs = search needs
 
--- src/lib.rt:136:5
 copy-in-requires : tie.Need-copy-in-requires
 copy-in-requires c κs = omega (arith, c .before .before .before .before .before .sized .ensures .bytes, short-body (c .before .before .before .before .before .before .before .before .before .args .given) (c .before .before .before .before .before .before .before .before .before .args .body .now) (c .before .before .before .before .before .before .before .before .before .args .words .now) (c .before .before .before .before .before .before .before .before .before .args .bytes .now) (c .before .before .before .before .before .sized .ensures .words) (c .before .before .before .before .before .sized .ensures .bytes) (not-false _ (c .before .before .before .if1 .left)) (c .before .before .before .before .before .before .before .before .before .pre))
 
--- src/lib.rt:137:5
 element-write-bytes-2 : tie.Need-element-write-bytes-2
 element-write-bytes-2 c = search needs
 
--- src/lib.rt:138:5
 element-write-bytes-3 : tie.Need-element-write-bytes-3
 element-write-bytes-3 c = search needs
 
--- src/lib.rt:139:5
 element-write-bytes-4 : tie.Need-element-write-bytes-4
 element-write-bytes-4 c = search needs
 
--- src/lib.rt:140:5
 element-write-words : tie.Need-element-write-words
 element-write-words c = search needs
 
--- src/lib.rt:141:5
 element-write-words-2 : tie.Need-element-write-words-2
 element-write-words-2 c = search needs
 
--- src/lib.rt:142:5
 element-write-words-3 : tie.Need-element-write-words-3
 element-write-words-3 c = search needs
 
--- src/lib.rt:125:1
 returns-2 : tie.Need-returns-2
 returns-2 c = hands-at (c .before .before .before .before .before .before .before .before .before .before .args .given) (c .before .before .before .before .before .before .before .before .before .before .args .body .now) (c .before .before .before .before .before .before .before .before .before .before .args .words .now) (c .before .before .before .before .before .before .before .before .before .before .args .bytes .now) (c .before .before .before .before .before .before .sized .ensures .words) (c .before .before .before .before .before .before .sized .ensures .bytes) (not-false _ (c .before .before .before .before .if1 .left)) (c .before .before .before .before .before .before .before .before .before .before .pre) _ _ (c .before .before .before .flag-byte .ensures) (c .before .before .flag-byte2 .ensures) _ (c .copy-in .ensures)
 

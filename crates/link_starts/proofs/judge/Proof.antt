@@ -2,35 +2,25 @@ use Rattle.link_starts.proofs.Starts.{short-outbound, short-queue, not-
 use borrow.Author.Needs.{needs}
 use Rattle.link_starts.proofs.judge.Statement.{statement}
 use Rattle.link_starts.proofs.judge.Tie as tie
-use Rattle.link_starts.proofs.judge.Reads as reads
-use Rattle.link_starts.proofs.judge.Lts as lts
-use Rattle.starts.proofs.judge.Reads as judge-reads
 
--- src/lib.rt:290:9
 returns : tie.Need-returns
 returns c = short-outbound (c .before .before .before .before .before .args .«record») (c .before .before .before .before .before .args .numbers .now) (c .before .before .before .before .before .args .lengths .now) (c .before .before .before .before .before .args .bodies .now) (c .before .before .before .before .before .args .policy) (c .before .before .before .before .before .args .reject .now) (c .if1 .taken)
 
--- src/lib.rt:293:9
 returns-2 : tie.Need-returns-2
 returns-2 c = short-queue (c .before .before .before .before .before .before .args .«record») (c .before .before .before .before .before .before .args .numbers .now) (c .before .before .before .before .before .before .args .lengths .now) (c .before .before .before .before .before .before .args .bodies .now) (c .before .before .before .before .before .before .args .policy) (c .before .before .before .before .before .before .args .reject .now) (c .before .if1 .left) (c .if2 .taken)
 
--- src/lib.rt:295:9
 judge-requires : tie.Need-judge-requires
 judge-requires c κs = search needs
 
--- src/lib.rt:297:26
 enum-known-found : tie.Need-enum-known-found
 enum-known-found c = search needs
 
--- src/lib.rt:298:26
 enum-told : tie.Need-enum-told
 enum-told c = search needs
 
--- src/lib.rt:277:1
 returns-3 : tie.Need-returns-3
 returns-3 c = not-good (c .before .before .before .before .before .before .before .before .before .before .args .«record») (c .before .before .before .before .before .before .before .before .before .before .args .numbers .now) (c .before .before .before .before .before .before .before .before .before .before .args .lengths .now) (c .before .before .before .before .before .before .before .before .before .before .args .bodies .now) (c .before .before .before .before .before .before .before .before .before .before .args .policy) (c .before .before .before .before .before .before .before .before .before .before .args .reject .now) (c .before .before .before .before .before .if1 .left) (c .before .before .before .before .if2 .left) (c .before .before .before .judge .ensures) _ (c .before .found .given .1)
 
--- src/lib.rt:277:1
 returns-4 : tie.Need-returns-4
 returns-4 c = is-good (c .before .before .before .before .before .before .before .before .before .args .«record») (c .before .before .before .before .before .before .before .before .before .args .numbers .now) (c .before .before .before .before .before .before .before .before .before .args .lengths .now) (c .before .before .before .before .before .before .before .before .before .args .bodies .now) (c .before .before .before .before .before .before .before .before .before .args .policy) (c .before .before .before .before .before .before .before .before .before .args .reject .now) (c .before .before .before .before .if1 .left) (c .before .before .before .if2 .left) (c .before .before .judge .ensures) (c .enum-told .given .1)
 

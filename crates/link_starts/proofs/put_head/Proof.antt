@@ -1,73 +1,55 @@
 use native.Mathlib.Omega.{arith}
-use Rattle.link_codes.proofs.Filling.{puts, puts-filled}
+use Rattle.link_starts.proofs.Filling.{puts, puts-filled}
 use Rattle.link_starts.specs.Starts.{head}
 use borrow.Author.Needs.{needs}
 use Rattle.link_starts.proofs.put_head.Statement.{statement}
 use Rattle.link_starts.proofs.put_head.Tie as tie
-use Rattle.link_starts.proofs.put_head.Reads as reads
-use Rattle.link_starts.proofs.put_head.Lts as lts
 
--- src/lib.rt:306:5
 element-write-words : tie.Need-element-write-words
 element-write-words c = search needs
 
--- src/lib.rt:307:5
 element-write-words-2 : tie.Need-element-write-words-2
 element-write-words-2 c = search needs
 
--- src/lib.rt:308:5
 element-write-words-3 : tie.Need-element-write-words-3
 element-write-words-3 c = search needs
 
--- src/lib.rt:309:5
 element-write-words-4 : tie.Need-element-write-words-4
 element-write-words-4 c = search needs
 
--- src/lib.rt:310:5
 element-write-words-5 : tie.Need-element-write-words-5
 element-write-words-5 c = search needs
 
--- src/lib.rt:311:5
 element-write-words-6 : tie.Need-element-write-words-6
 element-write-words-6 c = search needs
 
--- src/lib.rt:312:5
 element-write-words-7 : tie.Need-element-write-words-7
 element-write-words-7 c = search needs
 
--- src/lib.rt:313:5
 element-write-words-8 : tie.Need-element-write-words-8
 element-write-words-8 c = search needs
 
--- src/lib.rt:314:5
 element-write-words-9 : tie.Need-element-write-words-9
 element-write-words-9 c = search needs
 
--- src/lib.rt:315:5
 element-write-words-10 : tie.Need-element-write-words-10
 element-write-words-10 c = search needs
 
--- src/lib.rt:316:5
 element-write-words-11 : tie.Need-element-write-words-11
 element-write-words-11 c = search needs
 
--- src/lib.rt:317:5
 element-write-words-12 : tie.Need-element-write-words-12
 element-write-words-12 c = search needs
 
--- src/lib.rt:318:5
 element-write-words-13 : tie.Need-element-write-words-13
 element-write-words-13 c = search needs
 
--- src/lib.rt:319:5
 element-write-words-14 : tie.Need-element-write-words-14
 element-write-words-14 c = search needs
 
--- src/lib.rt:320:5
 element-write-words-15 : tie.Need-element-write-words-15
 element-write-words-15 c = search needs
 
--- src/lib.rt:303:1
 returns : tie.Need-returns
 unfolding puts
 returns c = puts-filled 0 (head (c .args .«record») (c .args .count) (c .args .policy) (c .args .reject)) (c .args .words .now) (omega (arith, c .pre))

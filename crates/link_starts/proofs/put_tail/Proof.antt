@@ -1,34 +1,25 @@
 use native.Mathlib.Omega.{arith}
 use mathlib.Core.List.{[], _∷_}
-use Rattle.link_codes.proofs.Filling.{puts, puts-filled}
+use Rattle.link_starts.proofs.Filling.{puts, puts-filled}
 use borrow.Author.Needs.{needs}
 use Rattle.link_starts.proofs.put_tail.Statement.{statement}
 use Rattle.link_starts.proofs.put_tail.Tie as tie
-use Rattle.link_starts.proofs.put_tail.Reads as reads
-use Rattle.link_starts.proofs.put_tail.Lts as lts
-use Rattle.link_starts.proofs.full_halves.Reads as full-halves-reads
 
--- src/lib.rt:327:5
 full-halves-requires : tie.Need-full-halves-requires
 full-halves-requires c κs = search needs
 
--- src/lib.rt:328:5
 element-write-halves : tie.Need-element-write-halves
 element-write-halves c = search needs
 
--- src/lib.rt:329:5
 element-write-halves-2 : tie.Need-element-write-halves-2
 element-write-halves-2 c = search needs
 
--- src/lib.rt:330:5
 element-write-halves-3 : tie.Need-element-write-halves-3
 element-write-halves-3 c = search needs
 
--- src/lib.rt:331:5
 element-write-halves-4 : tie.Need-element-write-halves-4
 element-write-halves-4 c = search needs
 
--- src/lib.rt:324:1
 returns : tie.Need-returns
 unfolding puts
 returns c = puts-filled 768 (0 ∷ 0 ∷ 0 ∷ 0 ∷ []) (c .before .before .args .halves .now) (omega (arith, c .full-halves .ensures))

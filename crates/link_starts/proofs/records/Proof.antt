@@ -6,8 +6,6 @@ use Rattle.link_starts.proofs.Messages.{Writing, writing-none, writing-
 use borrow.Author.Needs.{needs}
 use Rattle.link_starts.proofs.records.Statement.{statement}
 use Rattle.link_starts.proofs.records.Tie as tie
-use Rattle.link_starts.proofs.records.Reads as reads
-use Rattle.link_starts.proofs.records.Lts as lts
 
 abbrev Inv-loop : tie.InvT-loop
 Inv-loop halves₀ bytes₀ numbers lengths i₀ halves bytes i = Writing numbers lengths halves₀ bytes₀ halves bytes i
@@ -15,79 +13,60 @@ Inv-loop halves₀ bytes₀ numbers lengths i₀ halves bytes i = Writing number
 abbrev μ-loop : tie.MeasureT-loop
 μ-loop halves₀ bytes₀ numbers lengths i₀ halves bytes i = length numbers - i
 
--- src/lib.rt:40:5
 loop-holds : tie.Need-loop-holds Inv-loop μ-loop
 loop-holds c = writing-none _ _ _ _ (c .pre .0) (c .pre .1) (c .pre .2)
 
--- src/lib.rt:41:17
 mul-n : tie.Need-mul-n Inv-loop μ-loop
 mul-n c = search needs
 
--- src/lib.rt:41:17
 shared-slice-read-n : tie.Need-shared-slice-read-n Inv-loop μ-loop
 shared-slice-read-n c = search needs
 
--- src/lib.rt:42:17
 mul-k : tie.Need-mul-k Inv-loop μ-loop
 mul-k c = search needs
 
--- src/lib.rt:42:17
 shared-slice-read-k : tie.Need-shared-slice-read-k Inv-loop μ-loop
 shared-slice-read-k c = search needs
 
--- src/lib.rt:43:21
 cast-halves : tie.Need-cast-halves Inv-loop μ-loop
 cast-halves c = omega (arith, c .before .before .before .loop .inv .fitting .low (c .before .before .before .loop .i) (c .before .before .loop-test .taken))
 
--- src/lib.rt:43:9
 mul-halves : tie.Need-mul-halves Inv-loop μ-loop
 mul-halves c = search needs
 
--- src/lib.rt:43:9
 element-write-halves : tie.Need-element-write-halves Inv-loop μ-loop
 element-write-halves c = search needs
 
--- src/lib.rt:44:43
 cast-halves-2 : tie.Need-cast-halves-2 Inv-loop μ-loop
 cast-halves-2 c = omega (arith, length-small _ _ (c .before .before .before .loop .i) (c .before .before .before .loop .inv .fitting) (c .before .before .loop-test .taken))
 
--- src/lib.rt:44:16
 add-halves : tie.Need-add-halves Inv-loop μ-loop
 add-halves c = search needs
 
--- src/lib.rt:44:9
 mul-halves-2 : tie.Need-mul-halves-2 Inv-loop μ-loop
 mul-halves-2 c = search needs
 
--- src/lib.rt:44:9
 element-write-halves-2 : tie.Need-element-write-halves-2 Inv-loop μ-loop
 element-write-halves-2 c = search needs
 
--- src/lib.rt:45:9
 element-write-bytes : tie.Need-element-write-bytes Inv-loop μ-loop
 element-write-bytes c = search needs
 
--- src/lib.rt:46:15
 add-bytes : tie.Need-add-bytes Inv-loop μ-loop
 add-bytes c = search needs
 
--- src/lib.rt:46:9
 element-write-bytes-2 : tie.Need-element-write-bytes-2 Inv-loop μ-loop
 element-write-bytes-2 c = search needs
 
--- src/lib.rt:47:9
 add-i : tie.Need-add-i Inv-loop μ-loop
 add-i c = search needs
 
--- src/lib.rt:40:5
 loop-less : tie.Need-loop-less Inv-loop μ-loop
 loop-less c = search needs
 
--- src/lib.rt:40:5
 loop-again : tie.Need-loop-again Inv-loop μ-loop
 loop-again c = writing-more (c .before .before .before .loop .inv) (c .before .before .loop-test .taken)
 
--- src/lib.rt:35:1
 returns : tie.Need-returns Inv-loop μ-loop
 returns c = writing-all (c .before .loop .inv) (c .loop-test .left)
 

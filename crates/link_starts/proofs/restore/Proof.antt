@@ -3,41 +3,28 @@ use Rattle.link_starts.proofs.Restores.{passed, away, turned}
 use borrow.Author.Needs.{needs}
 use Rattle.link_starts.proofs.restore.Statement.{statement}
 use Rattle.link_starts.proofs.restore.Tie as tie
-use Rattle.link_starts.proofs.restore.Reads as reads
-use Rattle.link_starts.proofs.restore.Lts as lts
-use Rattle.link_codes.proofs.refusal.Reads as refusal-reads
-use Rattle.link_starts.proofs.enters.Reads as enters-reads
-use Rattle.link_starts.proofs.goes.Reads as goes-reads
 
--- src/lib.rt:238:9
 enters-requires : tie.Need-enters-requires
 enters-requires c κs = search needs
 
--- src/lib.rt:251:18
 enum-known-stop : tie.Need-enum-known-stop
 enum-known-stop c = search needs
 
--- src/lib.rt:251:24
 refusal-requires : tie.Need-refusal-requires
 refusal-requires c κs = search needs
 
--- src/lib.rt:253:13
 enum-told : tie.Need-enum-told
 enum-told c = search needs
 
--- src/lib.rt:252:21
 goes-requires : tie.Need-goes-requires
 goes-requires c κs = passed (c .before .before .before .before .before .before .before .before .before .before .before .before .before .before .before .args .«record») (c .before .before .before .before .before .before .before .before .before .before .before .before .before .before .before .args .numbers .now) (c .before .before .before .before .before .before .before .before .before .before .before .before .before .before .before .args .lengths .now) (c .before .before .before .before .before .before .before .before .before .before .before .before .before .before .before .args .bodies .now) (c .before .before .before .before .before .before .before .before .before .before .before .before .before .before .before .args .given) (c .before .before .before .before .before .before .before .before .before .before .before .before .before .before .before .args .body .now) (c .before .before .before .before .before .before .before .before .before .before .before .before .before .before .before .args .words .now) (c .before .before .before .before .before .before .before .before .before .before .before .before .before .before .before .args .halves .now) (c .before .before .before .before .before .before .before .before .before .before .before .before .before .before .before .args .bytes .now) (c .before .before .before .before .before .before .before .before .before .before .before .before .before .before .before .args .clock .now) (c .before .before .before .before .before .before .enters .ensures) (c .before .before .before .before .enum-told .given .1)
 
--- src/lib.rt:223:1
 returns : tie.Need-returns
 returns c = turned (c .before .before .before .before .before .before .before .before .before .before .before .before .before .args .«record») (c .before .before .before .before .before .before .before .before .before .before .before .before .before .args .numbers .now) (c .before .before .before .before .before .before .before .before .before .before .before .before .before .args .lengths .now) (c .before .before .before .before .before .before .before .before .before .before .before .before .before .args .bodies .now) (c .before .before .before .before .before .before .before .before .before .before .before .before .before .args .given) (c .before .before .before .before .before .before .before .before .before .before .before .before .before .args .body .now) (parts (c .before .before .before .before .before .before .before .before .before .before .before .before .before .args .words .now) (c .before .before .before .before .before .before .before .before .before .before .before .before .before .args .halves .now) (c .before .before .before .before .before .before .before .before .before .before .before .before .before .args .bytes .now) (c .before .before .before .before .before .before .before .before .before .before .before .before .before .args .clock .now)) (c .before .before .before .before .before .before .before .before .before .before .before .before .before .args .outbound .now) _ (away (c .before .before .before .before .before .before .before .before .before .before .before .before .before .args .«record») (c .before .before .before .before .before .before .before .before .before .before .before .before .before .args .numbers .now) (c .before .before .before .before .before .before .before .before .before .before .before .before .before .args .lengths .now) (c .before .before .before .before .before .before .before .before .before .before .before .before .before .args .bodies .now) (c .before .before .before .before .before .before .before .before .before .before .before .before .before .args .given) (c .before .before .before .before .before .before .before .before .before .before .before .before .before .args .body .now) (c .before .before .before .before .before .before .before .before .before .before .before .before .before .args .words .now) (c .before .before .before .before .before .before .before .before .before .before .before .before .before .args .halves .now) (c .before .before .before .before .before .before .before .before .before .before .before .before .before .args .bytes .now) (c .before .before .before .before .before .before .before .before .before .before .before .before .before .args .clock .now) (c .before .before .before .before .enters .ensures) _ (c .before .before .stop .given .1)) (c .refusal .ensures)
 
--- src/lib.rt:223:1
 same-length : tie.Need-same-length
 same-length c = search needs
 
--- src/lib.rt:223:1
 returns-2 : tie.Need-returns-2
 returns-2 c = search needs
 

@@ -1,5 +1,4 @@
-use mathlib.Core.Path.{sym, _∙_}
-use native.Mathlib.Omega.{arith}
+use mathlib.Core.Path.{_∙_}
 use borrow.Author.Tests.{not-true, not-false}
 use Rattle.restores.specs.Restored.{givenIn}
 use Rattle.restores.specs.Steps.{heldIn}
@@ -9,61 +8,43 @@ use Rattle.link_starts.proofs.Handoffs.{body-told}
 use borrow.Author.Needs.{needs}
 use Rattle.link_starts.proofs.same_handoff.Statement.{statement}
 use Rattle.link_starts.proofs.same_handoff.Tie as tie
-use Rattle.link_starts.proofs.same_handoff.Reads as reads
-use Rattle.link_starts.proofs.same_handoff.Lts as lts
-use Rattle.link_sound.proofs.sized.Reads as sized-reads
-use Rattle.stores.proofs.part.Reads as part-reads
-use Rattle.stores.proofs.same_bytes.Reads as same-bytes-reads
 
--- src/lib.rt:84:5
 sized-requires : tie.Need-sized-requires
 sized-requires c κs = search needs
 
--- src/lib.rt:85:8
 element-copy-out-if1 : tie.Need-element-copy-out-if1
 element-copy-out-if1 c = search needs
 
--- src/lib.rt:86:9
 returns : tie.Need-returns
 returns c = other-id (heldIn (handoffIn (c .before .before .before .before .before .args .words .now) (c .before .before .before .before .before .args .bytes .now))) (givenIn (c .before .before .before .before .before .args .given) (c .before .before .before .before .before .args .body .now)) (c .if1 .taken)
 
--- src/lib.rt:88:8
 element-copy-out-if2 : tie.Need-element-copy-out-if2
 element-copy-out-if2 c = search needs
 
--- src/lib.rt:89:9
 returns-2 : tie.Need-returns-2
 returns-2 c = other-number (heldIn (handoffIn (c .before .before .before .before .before .before .before .before .args .words .now) (c .before .before .before .before .before .before .before .before .args .bytes .now))) (givenIn (c .before .before .before .before .before .before .before .before .args .given) (c .before .before .before .before .before .before .before .before .args .body .now)) (c .before .before .before .if1 .left) (c .if2 .taken)
 
--- src/lib.rt:91:57
 element-copy-out-part : tie.Need-element-copy-out-part
 element-copy-out-part c = search needs
 
--- src/lib.rt:91:9
 part-requires : tie.Need-part-requires
 part-requires c κs = search needs
 
--- src/lib.rt:92:9
 same-bytes-requires : tie.Need-same-bytes-requires
 same-bytes-requires c κs = search needs
 
--- src/lib.rt:93:9
 returns-3 : tie.Need-returns-3
 returns-3 c = other-body (heldIn (handoffIn (c .before .before .before .before .before .before .before .before .before .before .before .before .before .args .words .now) (c .before .before .before .before .before .before .before .before .before .before .before .before .before .args .bytes .now))) (givenIn (c .before .before .before .before .before .before .before .before .before .before .before .before .before .args .given) (c .before .before .before .before .before .before .before .before .before .before .before .before .before .args .body .now)) (c .before .before .before .before .before .before .before .before .if1 .left) (c .before .before .before .before .before .if2 .left) (body-told _ (c .before .before .before .before .before .before .before .before .before .before .before .before .before .args .bytes .now) (c .before .before .before .before .before .before .before .before .before .before .before .before .before .args .body .now) (c .before .before .before .before .before .before .before .before .before .before .before .before .before .pre) (c .before .before .part .ensures) (c .before .same-bytes .ensures) ∙ not-true _ (c .if3 .taken))
 
--- src/lib.rt:95:9
 element-copy-out-if4 : tie.Need-element-copy-out-if4
 element-copy-out-if4 c = search needs
 
--- src/lib.rt:96:9
 returns-4 : tie.Need-returns-4
 returns-4 c = other-sent (heldIn (handoffIn (c .before .before .before .before .before .before .before .before .before .before .before .before .before .before .before .before .args .words .now) (c .before .before .before .before .before .before .before .before .before .before .before .before .before .before .before .before .args .bytes .now))) (givenIn (c .before .before .before .before .before .before .before .before .before .before .before .before .before .before .before .before .args .given) (c .before .before .before .before .before .before .before .before .before .before .before .before .before .before .before .before .args .body .now)) (c .before .before .before .before .before .before .before .before .before .before .before .if1 .left) (c .before .before .before .before .before .before .before .before .if2 .left) (body-told _ (c .before .before .before .before .before .before .before .before .before .before .before .before .before .before .before .before .args .bytes .now) (c .before .before .before .before .before .before .before .before .before .before .before .before .before .before .before .before .args .body .now) (c .before .before .before .before .before .before .before .before .before .before .before .before .before .before .before .before .pre) (c .before .before .before .before .before .part .ensures) (c .before .before .before .before .same-bytes .ensures) ∙ not-false _ (c .before .before .before .if3 .left)) (not-true _ (c .if4 .taken))
 
--- src/lib.rt:98:6
 element-copy-out-result : tie.Need-element-copy-out-result
 element-copy-out-result c = search needs
 
--- src/lib.rt:80:1
 returns-5 : tie.Need-returns-5
 returns-5 c = by-acknowledged (heldIn (handoffIn (c .before .before .before .before .before .before .before .before .before .before .before .before .before .before .before .before .before .before .args .words .now) (c .before .before .before .before .before .before .before .before .before .before .before .before .before .before .before .before .before .before .args .bytes .now))) (givenIn (c .before .before .before .before .before .before .before .before .before .before .before .before .before .before .before .before .before .before .args .given) (c .before .before .before .before .before .before .before .before .before .before .before .before .before .before .before .before .before .before .args .body .now)) (c .before .before .before .before .before .before .before .before .before .before .before .before .before .if1 .left) (c .before .before .before .before .before .before .before .before .before .before .if2 .left) (body-told _ (c .before .before .before .before .before .before .before .before .before .before .before .before .before .before .before .before .before .before .args .bytes .now) (c .before .before .before .before .before .before .before .before .before .before .before .before .before .before .before .before .before .before .args .body .now) (c .before .before .before .before .before .before .before .before .before .before .before .before .before .before .before .before .before .before .pre) (c .before .before .before .before .before .before .before .part .ensures) (c .before .before .before .before .before .before .same-bytes .ensures) ∙ not-false _ (c .before .before .before .before .before .if3 .left)) (not-false _ (c .before .before .if4 .left))
 

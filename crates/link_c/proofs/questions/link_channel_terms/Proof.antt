@@ -3,10 +3,6 @@ use Rattle.link_c.specs.Forms.{termsOf}
 use borrow.Author.Needs.{needs}
 use Rattle.link_c.proofs.questions.link_channel_terms.Statement.{statement}
 use Rattle.link_c.proofs.questions.link_channel_terms.Tie as tie
-use Rattle.link_c.proofs.questions.link_channel_terms.Reads as reads
-use Rattle.link_c.proofs.questions.link_channel_terms.Lts as lts
-use Rattle.link_c.proofs.questions.terms_of.Reads as terms-of-reads
-use Rattle.link_replays.proofs.channel_terms.Reads as channel-terms-reads
 
 -- src/questions.rt:77:9
 channel-terms-requires : tie.Need-channel-terms-requires

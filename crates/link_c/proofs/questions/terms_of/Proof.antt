@@ -4,8 +4,6 @@ use Rattle.link_c.specs.Forms.{termsOf}
 use borrow.Author.Needs.{needs}
 use Rattle.link_c.proofs.questions.terms_of.Statement.{statement}
 use Rattle.link_c.proofs.questions.terms_of.Tie as tie
-use Rattle.link_c.proofs.questions.terms_of.Reads as reads
-use Rattle.link_c.proofs.questions.terms_of.Lts as lts
 
 -- src/questions.rt:29:31
 enum-known-t : tie.Need-enum-known-t

@@ -1,27 +1,19 @@
 use Rattle.link_codes.proofs.Enums.{mode-raw, mode-proposal, mode-channel, mode-rejection, mode-retiring}
-use borrow.Author.Needs.{needs}
 use Rattle.link_codes.proofs.coding.mode_of.Statement.{statement}
 use Rattle.link_codes.proofs.coding.mode_of.Tie as tie
-use Rattle.link_codes.proofs.coding.mode_of.Reads as reads
-use Rattle.link_codes.proofs.coding.mode_of.Lts as lts
 
--- src/lib.rt:99:9
 returns : tie.Need-returns
 returns c = mode-raw (c .before .args .code) (c .if1 .taken)
 
--- src/lib.rt:102:9
 returns-2 : tie.Need-returns-2
 returns-2 c = mode-proposal (c .before .before .args .code) (c .before .if1 .left) (c .if2 .taken)
 
--- src/lib.rt:105:9
 returns-3 : tie.Need-returns-3
 returns-3 c = mode-channel (c .before .before .before .args .code) (c .before .before .if1 .left) (c .before .if2 .left) (c .if3 .taken)
 
--- src/lib.rt:108:9
 returns-4 : tie.Need-returns-4
 returns-4 c = mode-rejection (c .before .before .before .before .args .code) (c .before .before .before .if1 .left) (c .before .before .if2 .left) (c .before .if3 .left) (c .if4 .taken)
 
--- src/lib.rt:95:1
 returns-5 : tie.Need-returns-5
 returns-5 c = mode-retiring (c .before .before .before .before .args .code) (c .before .before .before .if1 .left) (c .before .before .if2 .left) (c .before .if3 .left) (c .if4 .left)
 

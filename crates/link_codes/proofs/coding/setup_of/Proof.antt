@@ -1,23 +1,16 @@
 use Rattle.link_codes.proofs.Enums.{setup-waiting, setup-started, setup-retired, setup-none}
-use borrow.Author.Needs.{needs}
 use Rattle.link_codes.proofs.coding.setup_of.Statement.{statement}
 use Rattle.link_codes.proofs.coding.setup_of.Tie as tie
-use Rattle.link_codes.proofs.coding.setup_of.Reads as reads
-use Rattle.link_codes.proofs.coding.setup_of.Lts as lts
 
--- src/lib.rt:84:9
 returns : tie.Need-returns
 returns c = setup-waiting (c .before .args .code) (c .before .args .terms) (c .if1 .taken)
 
--- src/lib.rt:87:9
 returns-2 : tie.Need-returns-2
 returns-2 c = setup-started (c .before .before .args .code) (c .before .before .args .terms) (c .before .if1 .left) (c .if2 .taken)
 
--- src/lib.rt:90:9
 returns-3 : tie.Need-returns-3
 returns-3 c = setup-retired (c .before .before .before .args .code) (c .before .before .before .args .terms) (c .before .before .if1 .left) (c .before .if2 .left) (c .if3 .taken)
 
--- src/lib.rt:80:1
 returns-4 : tie.Need-returns-4
 returns-4 c = setup-none (c .before .before .before .args .code) (c .before .before .before .args .terms) (c .before .before .if1 .left) (c .before .if2 .left) (c .if3 .left)
 

@@ -1,0 +1,39 @@
+-- A few numbers written one after the other. Assumes nothing.
+use Prim.Native.Nat.{ℕ, zero, suc, _+_, _≤_, _<_}
+use mathlib.Core.Path.{_≡_, refl, ap, _∙_}
+use mathlib.Core.List.{List, [], _∷_}
+use native.Mathlib.Omega.{arith}
+use lib.ListN.{length, set, length-set}
+use lib.Seq.{getD-set-same, getD-set-other}
+use Rattle.parts.specs.Parts.{at}
+use Rattle.link_starts.specs.Filled.{Filled}
+
+unfoldable pub puts : ℕ → List ℕ → List ℕ → List ℕ
+puts from [] l = l
+puts from (x ∷ xs) l = puts (suc from) xs (set l from x)
+
+puts-none : (from : ℕ) (l : List ℕ) → Filled from 0 (at []) l l
+puts-none from l = record { size = refl; filled = λ i h. absurd (omega arith); below = λ i h. refl; above = λ i h. refl }
+
+puts-cons : (from x : ℕ) (xs l l′ : List ℕ) → from < length l → Filled (suc from) (length xs) (at xs) (set l from x) l′ → Filled from (suc (length xs)) (at (x ∷ xs)) l l′
+puts-cons from x xs l l′ h s =
+    record {
+      size = s .size ∙ length-set l from x;
+      filled = λ i k. at-each i k;
+      below = λ i k. s .below i (omega arith) ∙ getD-set-other l from i x 0 (λ same. omega (arith, same));
+      above = λ i k. s .above i (omega arith) ∙ getD-set-other l from i x 0 (λ same. omega (arith, same));
+    }
+  where
+    at-each : (i : ℕ) → i < suc (length xs) → at l′ (from + i) ≡ at (x ∷ xs) i
+    at-each zero k =
+        let e : from + zero ≡ from = omega arith in
+        ap (at l′) e ∙ s .below from (omega arith) ∙ getD-set-same l from x 0 h
+    at-each (suc i) k =
+        let e : from + suc i ≡ suc from + i = omega arith in
+        ap (at l′) e ∙ s .filled i (omega arith)
+
+pub puts-filled : (from : ℕ) (xs l : List ℕ) → from + length xs ≤ length l → Filled from (length xs) (at xs) l (puts from xs l)
+unfolding puts
+puts-filled from [] l h = puts-none from l
+puts-filled from (x ∷ xs) l h =
+    puts-cons from x xs l (puts (suc from) xs (set l from x)) (omega arith) (puts-filled (suc from) xs (set l from x) (omega (arith, length-set l from x)))
