@@ -45,7 +45,7 @@ use Rattle.link_sound.proofs.Parts.{Usable, usable}
 use Rattle.link_codes.proofs.Enums.{stage-good}
 use Rattle.link_draining.specs.Steps.{Failing}
 use Rattle.link_acks.specs.Acks.{AckReady, AckTurns, AckFound, outside, BeyondIn, raisedIf}
-use Rattle.link_acks.proofs.Lengths.{bytes-long}
+use Rattle.link_sound.proofs.Lengths.{bytes-long}
 
 -- ---- what good codes say
 

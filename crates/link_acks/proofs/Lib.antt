@@ -1,5 +1,2 @@
--- Reports, acks and keepalives on the parts of a session are the driver's.
-pub mod Lengths
-pub mod Reports
-pub mod Keepalives
+-- An ack on the parts of a session is the driver's.
 pub mod Acks

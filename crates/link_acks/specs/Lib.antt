@@ -1,3 +1,2 @@
 -- What the contracts of `link_acks` cite.
-pub mod Reports
 pub mod Acks

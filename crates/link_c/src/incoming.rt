@@ -102,5 +102,5 @@ pub extern "C" fn link_keepalive(
 ) -> LinkAnswer
     ensures { λ x. ⌜ DrivenTold (parts (now (words .entry)) (now (halves .entry)) (now (bytes .entry)) (now (clock .entry))) x (λ s y. ToldWithList gets-keepalive s (now (list .entry)) y (now (list .exit))) ⌝ }
 {
-    link_acks::keepalive(words, halves, bytes, clock, list)
+    link_reports::keepalive(words, halves, bytes, clock, list)
 }

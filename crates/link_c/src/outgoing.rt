@@ -69,7 +69,7 @@ pub extern "C" fn link_report(
 ) -> LinkAnswer
     ensures { λ x. ⌜ Driven (parts (now (words .entry)) (now (halves .entry)) (now (bytes .entry)) (now (clock .entry))) (parts (now (words .exit)) (now (halves .entry)) (now (bytes .exit)) (now (clock .entry))) x (λ s y. CalledWithList (reports what number accepted) s (now (list .entry)) y (now (list .exit))) ⌝ }
 {
-    link_acks::report(words, halves, bytes, clock, list, what, number, accepted)
+    link_reports::report(words, halves, bytes, clock, list, what, number, accepted)
 }
 
 // The line's state changed, or time passed: unacked messages are sent again.

@@ -1,9 +1,9 @@
 use native.Mathlib.Omega.{arith}
 use mathlib.Core.Path.{sym, _∙_}
-use Rattle.link_acks.proofs.Reports.{ack-sent, ack-kept, ack-lost}
+use Rattle.link_reports.proofs.Reports.{ack-sent, ack-kept, ack-lost}
 use borrow.Author.Needs.{needs}
-use Rattle.link_acks.proofs.ack_sent.Statement.{statement}
-use Rattle.link_acks.proofs.ack_sent.Tie as tie
+use Rattle.link_reports.proofs.ack_sent.Statement.{statement}
+use Rattle.link_reports.proofs.ack_sent.Tie as tie
 
 -- src/lib.rt:91:9
 take-out-requires : tie.Need-take-out-requires

@@ -1,9 +1,9 @@
 use native.Mathlib.Omega.{arith}
 use mathlib.Core.Path.{refl}
-use Rattle.link_acks.proofs.Reports.{retries, may-retry, of-ack, fit-as, reported-as, unsent}
+use Rattle.link_reports.proofs.Reports.{retries, may-retry, of-ack, fit-as, reported-as, unsent}
 use borrow.Author.Needs.{needs}
-use Rattle.link_acks.proofs.reported.Statement.{statement}
-use Rattle.link_acks.proofs.reported.Tie as tie
+use Rattle.link_reports.proofs.reported.Statement.{statement}
+use Rattle.link_reports.proofs.reported.Tie as tie
 
 -- src/lib.rt:116:13
 data-sent-requires : tie.Need-data-sent-requires

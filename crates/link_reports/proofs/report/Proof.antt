@@ -1,8 +1,8 @@
 use Rattle.parts.specs.Parts.{parts}
-use Rattle.link_acks.proofs.Reports.{turned, fits}
+use Rattle.link_reports.proofs.Reports.{turned, fits}
 use borrow.Author.Needs.{needs}
-use Rattle.link_acks.proofs.report.Statement.{statement}
-use Rattle.link_acks.proofs.report.Tie as tie
+use Rattle.link_reports.proofs.report.Statement.{statement}
+use Rattle.link_reports.proofs.report.Tie as tie
 
 -- src/lib.rt:136:9
 report-enters-requires : tie.Need-report-enters-requires

@@ -38,8 +38,8 @@ use Rattle.parts.proofs.After.{Kept, other, after, agree-all}
 use Rattle.parts.proofs.Drives.{leaves, changes, refuses}
 use Rattle.link_numbers.specs.Sets.{Rising}
 use Rattle.link_sound.proofs.Parts.{Usable, usable}
-use Rattle.link_acks.specs.Reports.{Ready, Turns, Found, Enters, Fit, Reported}
-use Rattle.link_acks.proofs.Lengths.{bytes-long}
+use Rattle.link_reports.specs.Reports.{Ready, Turns, Found, Enters, Fit, Reported}
+use Rattle.link_sound.proofs.Lengths.{bytes-long}
 
 -- ---- data was accepted: one message is no longer unsent, and perhaps the handoff is sent
 

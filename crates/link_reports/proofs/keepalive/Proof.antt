@@ -1,10 +1,10 @@
 use native.Mathlib.Omega.{arith}
 use mathlib.Core.Path.{sym, _∙_}
 use borrow.Author.Tests.{not-true, not-false}
-use Rattle.link_acks.proofs.Keepalives.{told-short, told-unsound, told, retries}
+use Rattle.link_reports.proofs.Keepalives.{told-short, told-unsound, told, retries}
 use borrow.Author.Needs.{needs}
-use Rattle.link_acks.proofs.keepalive.Statement.{statement}
-use Rattle.link_acks.proofs.keepalive.Tie as tie
+use Rattle.link_reports.proofs.keepalive.Statement.{statement}
+use Rattle.link_reports.proofs.keepalive.Tie as tie
 
 -- src/lib.rt:156:9
 refusal-requires : tie.Need-refusal-requires

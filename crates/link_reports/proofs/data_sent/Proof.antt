@@ -1,10 +1,10 @@
 use native.Mathlib.Omega.{arith}
 use mathlib.Core.Path.{refl, sym, _∙_}
 use mathlib.Core.Bool.{true}
-use Rattle.link_acks.proofs.Reports.{list-long, messages-sound, other-frame, its-own-frame}
+use Rattle.link_reports.proofs.Reports.{list-long, messages-sound, other-frame, its-own-frame}
 use borrow.Author.Needs.{needs}
-use Rattle.link_acks.proofs.data_sent.Statement.{statement}
-use Rattle.link_acks.proofs.data_sent.Tie as tie
+use Rattle.link_reports.proofs.data_sent.Statement.{statement}
+use Rattle.link_reports.proofs.data_sent.Tie as tie
 
 -- src/lib.rt:60:9
 element-copy-out-own-frame : tie.Need-element-copy-out-own-frame

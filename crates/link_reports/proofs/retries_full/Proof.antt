@@ -2,8 +2,8 @@ use Rattle.parts.specs.Parts.{retryIn}
 use Rattle.acks.proofs.Reports.{full-not, full-where}
 use Rattle.link_numbers.proofs.Sets.{section-room}
 use borrow.Author.Needs.{needs}
-use Rattle.link_acks.proofs.retries_full.Statement.{statement}
-use Rattle.link_acks.proofs.retries_full.Tie as tie
+use Rattle.link_reports.proofs.retries_full.Statement.{statement}
+use Rattle.link_reports.proofs.retries_full.Tie as tie
 
 -- src/lib.rt:78:17
 element-copy-out-count : tie.Need-element-copy-out-count

@@ -1,9 +1,9 @@
 use mathlib.Core.Path.{sym, _∙_}
 use borrow.Author.Tests.{not-true, not-false}
-use Rattle.link_acks.proofs.Reports.{short, bad-code, unsound}
+use Rattle.link_reports.proofs.Reports.{short, bad-code, unsound}
 use borrow.Author.Needs.{needs}
-use Rattle.link_acks.proofs.report_enters.Statement.{statement}
-use Rattle.link_acks.proofs.report_enters.Tie as tie
+use Rattle.link_reports.proofs.report_enters.Statement.{statement}
+use Rattle.link_reports.proofs.report_enters.Tie as tie
 
 -- src/lib.rt:37:9
 returns : tie.Need-returns

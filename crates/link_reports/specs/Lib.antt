@@ -1,0 +1,2 @@
+-- What the contracts of reports in place cite.
+pub mod Reports
