@@ -71,7 +71,7 @@ pub extern "C" fn link_retire(
 ) -> LinkAnswer
     ensures { λ x. ⌜ Driven (parts (now (words .entry)) (now (halves .entry)) (now (bytes .entry)) (now (clock .entry))) (parts (now (words .exit)) (now (halves .exit)) (now (bytes .exit)) (now (clock .entry))) x (λ s y. CalledWithStoresAlone (retires retain) s (now (outbound .entry)) (now (queue .entry)) y (now (outbound .exit)) (now (queue .exit))) ⌝ }
 {
-    link_setup::retire(words, halves, bytes, clock, outbound, queue, retain)
+    link_retires::retire(words, halves, bytes, clock, outbound, queue, retain)
 }
 
 // A channel's command: none, or a terminal handoff with this id and body.

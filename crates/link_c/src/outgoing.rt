@@ -101,5 +101,5 @@ pub extern "C" fn link_find(
 ) -> LinkAnswer
     ensures { λ x. ⌜ DrivenAnswer (parts (now (words .entry)) (now (halves .entry)) (now (bytes .entry)) (now (clock .entry))) x (λ s a. AnsweredWithOutbound (fetches number) s (now (outbound .entry)) a) ⌝ }
 {
-    link_replays::find(words, halves, bytes, clock, outbound, number)
+    link_fetches::find(words, halves, bytes, clock, outbound, number)
 }

@@ -45,7 +45,7 @@ fn terms_of(t: ChannelTerms) -> LinkTerms
 pub extern "C" fn link_dirty(words: &Words, halves: &Halves, bytes: &Bytes, clock: &f64) -> bool
     ensures { λ x. ⌜ ((o q : List ℕ) → x ≡ dirty (stateOf (openedOf (parts (now (words .entry)) (now (halves .entry)) (now (bytes .entry)) (now (clock .entry)))) o q)) ⌝ }
 {
-    link_replays::dirty(words, halves, bytes, clock)
+    link_questions::dirty(words, halves, bytes, clock)
 }
 
 // Whether a setup waits or has started.
@@ -53,7 +53,7 @@ pub extern "C" fn link_dirty(words: &Words, halves: &Halves, bytes: &Bytes, cloc
 pub extern "C" fn link_accepted(words: &Words, halves: &Halves, bytes: &Bytes, clock: &f64) -> bool
     ensures { λ x. ⌜ ((o q : List ℕ) → x ≡ accepted (stateOf (openedOf (parts (now (words .entry)) (now (halves .entry)) (now (bytes .entry)) (now (clock .entry)))) o q)) ⌝ }
 {
-    link_replays::accepted(words, halves, bytes, clock)
+    link_questions::accepted(words, halves, bytes, clock)
 }
 
 // Whether the setup is retired.
@@ -61,7 +61,7 @@ pub extern "C" fn link_accepted(words: &Words, halves: &Halves, bytes: &Bytes, c
 pub extern "C" fn link_retired(words: &Words, halves: &Halves, bytes: &Bytes, clock: &f64) -> bool
     ensures { λ x. ⌜ ((o q : List ℕ) → x ≡ is-retired (stateOf (openedOf (parts (now (words .entry)) (now (halves .entry)) (now (bytes .entry)) (now (clock .entry)))) o q)) ⌝ }
 {
-    link_replays::retired(words, halves, bytes, clock)
+    link_questions::retired(words, halves, bytes, clock)
 }
 
 // The terms of a session that waits.
@@ -74,7 +74,7 @@ pub extern "C" fn link_channel_terms(
 ) -> LinkTerms
     ensures { λ x. ⌜ ((o q : List ℕ) → x ≡ termsOf (termsIn (stateOf (openedOf (parts (now (words .entry)) (now (halves .entry)) (now (bytes .entry)) (now (clock .entry)))) o q .stage .setup))) ⌝ }
 {
-    let t = link_replays::channel_terms(words, halves, bytes, clock);
+    let t = link_questions::channel_terms(words, halves, bytes, clock);
     terms_of(t)
 }
 
@@ -88,5 +88,5 @@ pub extern "C" fn link_rejection_complete(
 ) -> bool
     ensures { λ x. ⌜ ((o q : List ℕ) → x ≡ rejection-complete (stateOf (openedOf (parts (now (words .entry)) (now (halves .entry)) (now (bytes .entry)) (now (clock .entry)))) o q)) ⌝ }
 {
-    link_replays::rejection_complete(words, halves, bytes, clock)
+    link_questions::rejection_complete(words, halves, bytes, clock)
 }

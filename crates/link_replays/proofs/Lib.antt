@@ -1,4 +1,2 @@
--- Connectivity, a fetch and the questions on the parts of a session are the driver's.
+-- Connectivity on the parts of a session is the driver's.
 pub mod Connects
-pub mod Finds
-pub mod Asks

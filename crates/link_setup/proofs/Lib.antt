@@ -4,4 +4,3 @@ pub mod Channels
 pub mod Joins
 pub mod Accepts
 pub mod Rejects
-pub mod Retires

@@ -16,7 +16,6 @@ use Rattle.events.specs.declared.Stop.the-variants.{No, By}
 use Rattle.peer_session.specs.Sound.{Checked}
 use Rattle.session.specs.declared.Returned.{Returned}
 use Rattle.session.specs.Promise.{lent, Called, Turned}
-use Rattle.setup.specs.Steps.{Retires, Forgets}
 use Rattle.parts.specs.Parts.{Parts, parts, openedOf}
 
 -- disposition d, and the setup of code c with these terms
@@ -62,15 +61,3 @@ RejectFound p n m (By x) = NotRejecting p n m x
 
 abbrev pub RejectEnters : List ℕ → List ℕ → List ℕ → ℕ → ℕ → Stop → Type 0
 RejectEnters w h b n m r = (t : Float) → RejectFound (parts w h b t) n m r
-
--- ---- retire: the driver's steps, at any time of the last replay
-
-pub record Retiring (w h b : List ℕ) (n : ℕ) : Type 0 where
-  pub checked : (t : Float) → Checked (openedOf (parts w h b t)) true
-  pub room : 32768 ≤ n
-
-pub record RetiresIn (w h b : List ℕ) (q : Bytes) (w′ h′ b′ : List ℕ) (q′ : Bytes) : Type 0 where
-  pub retires : (t : Float) → Retires (openedOf (parts w h b t)) q (openedOf (parts w′ h′ b′ t)) q′
-
-pub record ForgetsIn (w h b : List ℕ) (o : Bytes) (w′ h′ : List ℕ) (o′ : Bytes) : Type 0 where
-  pub forgets : (t : Float) → Forgets (openedOf (parts w h b t)) o (openedOf (parts w′ h′ b t)) o′

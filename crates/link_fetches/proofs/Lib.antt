@@ -1,0 +1,2 @@
+-- A fetch on the parts of a session is the driver's.
+pub mod Finds

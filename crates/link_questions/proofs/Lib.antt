@@ -1,0 +1,2 @@
+-- The questions on the parts of a session are the driver's.
+pub mod Asks

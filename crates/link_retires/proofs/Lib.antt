@@ -1,0 +1,2 @@
+-- A retire on the parts of a session is the driver's.
+pub mod Retires

@@ -1,0 +1,2 @@
+-- What the contracts of a retire in place cite.
+pub mod Steps
