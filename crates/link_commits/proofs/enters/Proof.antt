@@ -15,6 +15,9 @@ is-sound : (c : tie.Else2) (t : Float)
     → soundOf (openedOf (parts (c .before .before .before .before .args .words .now) (c .before .before .before .before .args .halves .now) (c .before .before .before .before .args .bytes .now) t)) ≡ true
 is-sound c t = sym (c .before .sound .ensures t .is) ∙ not-false _ (c .if2 .left)
 
+full-halves-requires : tie.Need-full-halves-requires
+full-halves-requires c κs = search needs
+
 returns : tie.Need-returns
 returns c t =
     let a : tie.Start = c .before .before in
@@ -43,11 +46,11 @@ returns-5 c t =
     record {
       sound = is-sound (c .before .before .before .before) t;
       full = c .before .before .before .before .before .sound .ensures t .full;
-      halves = omega (arith, c .before .before .before .before .before .before .before .all .given);
+      halves = omega (arith, c .before .before .before .before .before .before .before .full-halves .ensures);
       list = c .before .before .before .before .before .before .if1 .left;
       outbound = c .before .before .if3 .left;
       remote = c .if4 .left;
     }
 
 pub enters-spec : {M : Type 1} → statement M
-enters-spec = tie.close (tie.spec returns sound-requires returns-2 returns-3 returns-4 returns-5)
+enters-spec = tie.close (tie.spec full-halves-requires returns sound-requires returns-2 returns-3 returns-4 returns-5)
