@@ -121,7 +121,7 @@ pub extern "C" fn link_restore(
 ) -> LinkAnswer
     ensures { λ x. ⌜ Driven (parts (now (words .entry)) (now (halves .entry)) (now (bytes .entry)) (now (clock .entry))) (parts (now (words .exit)) (now (halves .exit)) (now (bytes .exit)) (now (clock .entry))) x (λ s y. Restored «record» (now (numbers .entry)) (now (lengths .entry)) (now (bodies .entry)) given (now (body .entry)) s (now (outbound .entry)) y (now (outbound .exit))) ⌝ }
 {
-    link_starts::restore(
+    link_restores::restore(
         words,
         halves,
         bytes,

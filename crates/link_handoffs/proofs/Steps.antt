@@ -42,8 +42,9 @@ use Rattle.link_sending.proofs.Sends.{raised, left, clock-raised}
 use Rattle.link_setup.specs.Steps.{Stages}
 use Rattle.link_setup.proofs.Stages.{stage-is, restaged, stages-apart, stage-starts, long-words, long-bytes}
 use Rattle.link_setup.proofs.Joins.{grown, joins, joins-not}
-use Rattle.link_starts.specs.Steps.{Between, HandedIn}
-use Rattle.link_starts.proofs.Handoffs.{flag-there, flag-gone}
+use Rattle.link_starts.specs.Steps.{Between}
+use Rattle.link_restores.specs.Handed.{HandedIn}
+use Rattle.link_restores.proofs.Handoffs.{flag-there, flag-gone}
 use Rattle.link_handoffs.specs.Commands.{Commanding, no-terms, Starts, ComesIn, AsksIn}
 
 -- ---- a step that leaves the parts

@@ -26,7 +26,7 @@ use Rattle.parts.specs.Codes.{answerOf}
 use Rattle.parts.specs.Parts.{Parts, parts, at, flag, section, unackedAt, outboxIn, clockIn, openedOf}
 use Rattle.parts.proofs.Seats.{length-seats, getD-seats}
 use Rattle.parts.proofs.Fields.{length-section}
-use Rattle.link_starts.proofs.Handoffs.{held-body, flag-there, flag-gone}
+use Rattle.link_restores.proofs.Handoffs.{held-body, flag-there, flag-gone}
 use Rattle.link_handoffs.specs.Commands.{ComesIn, AsksIn, HoldingIn}
 use Rattle.link_handoffs.proofs.Steps.{refuses-in, asks-in, clocked}
 

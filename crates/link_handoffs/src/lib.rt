@@ -202,7 +202,7 @@ fn hand_off(
                 sent: false,
                 acknowledged: false,
             };
-            link_starts::hand(words, bytes, given, body);
+            link_restores::hand(words, bytes, given, body);
             done(halves, clock, list)
         }
     }

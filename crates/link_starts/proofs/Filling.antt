@@ -1,10 +1,12 @@
--- A few numbers written one after the other. Assumes nothing.
+-- A few numbers written one after the other, and a run of bytes. Assumes nothing.
 use Prim.Native.Nat.{ℕ, zero, suc, _+_, _≤_, _<_}
-use mathlib.Core.Path.{_≡_, refl, ap, _∙_}
+use mathlib.Core.Path.{_≡_, refl, sym, ap, _∙_}
 use mathlib.Core.List.{List, [], _∷_}
 use native.Mathlib.Omega.{arith}
 use lib.ListN.{length, set, length-set}
-use lib.Seq.{getD-set-same, getD-set-other}
+use lib.Seq.{getD-set-same, getD-set-other, getD-take, getD-drop}
+use Rattle.stores.specs.Placed.{placed}
+use Rattle.stores.proofs.Laws.{take-placed-le, drop-placed-ge}
 use Rattle.parts.specs.Parts.{at}
 use Rattle.link_starts.specs.Filled.{Filled}
 
@@ -37,3 +39,14 @@ unfolding puts
 puts-filled from [] l h = puts-none from l
 puts-filled from (x ∷ xs) l h =
     puts-cons from x xs l (puts (suc from) xs (set l from x)) (omega arith) (puts-filled (suc from) xs (set l from x) (omega (arith, length-set l from x)))
+
+-- ---- a run of bytes written
+
+module _ (b : List ℕ) (from : ℕ) (v : List ℕ) (room : from + length v ≤ length b) where
+  pub placed-below : (i : ℕ) → i < from → at (placed b from v) i ≡ at b i
+  placed-below i k = sym (getD-take from (placed b from v) i 0 k) ∙ ap (λ (l : List ℕ). at l i) (take-placed-le b from v room from (omega arith)) ∙ getD-take from b i 0 k
+
+  pub placed-above : (i : ℕ) → from + length v ≤ i → at (placed b from v) i ≡ at b i
+  placed-above i k =
+      let z : i + 0 ≡ i = omega arith in
+      ap (at (placed b from v)) (sym z) ∙ sym (getD-drop i (placed b from v) 0 0) ∙ ap (λ (l : List ℕ). at l 0) (drop-placed-ge b from v room i k) ∙ getD-drop i b 0 0 ∙ ap (at b) z

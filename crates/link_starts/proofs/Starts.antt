@@ -40,11 +40,10 @@ use Rattle.parts.proofs.Seats.{length-seats}
 use Rattle.parts.proofs.Fields.{length-section, section-same, outbox-same}
 use Rattle.parts.proofs.After.{agree-all}
 use Rattle.link_starts.specs.Filled.{Filled}
-use Rattle.link_starts.proofs.Filling.{puts, puts-filled}
+use Rattle.link_starts.proofs.Filling.{puts, puts-filled, placed-below}
 use Rattle.link_starts.specs.Steps.{Written}
 use Rattle.link_starts.specs.Starts.{Judged, NotGood, FoundStart, head, middle, BodyIn}
 use Rattle.link_starts.proofs.Messages.{recorded-in}
-use Rattle.link_starts.proofs.Handoffs.{placed-below}
 
 -- ---- the tests
 

@@ -1,5 +1,4 @@
 -- What the contracts of `link_starts` cite.
 pub mod Filled
 pub mod Steps
-pub mod Restores
 pub mod Starts

@@ -1,4 +1,4 @@
--- The steps of a restore on the parts of a session: w, h, b are the words, halves and bytes before, and w′, h′, b′ after. Assumes nothing.
+-- The messages of a record on the parts of a session: w, h, b are the words, halves and bytes before, and w′, h′, b′ after. Assumes nothing.
 use Prim.Native.Nat.{ℕ, _≤_, _<_}
 use mathlib.Core.Path.{_≡_}
 use mathlib.Core.List.{List}
@@ -8,10 +8,8 @@ use Rattle.rules.specs.Buffers.{repacked}
 use Rattle.outbox.specs.View.{endU, ExactOutbox}
 use Rattle.starts.specs.declared.Reliable.{Reliable}
 use Rattle.starts.specs.Records.{recordsOf, Fitting, Recorded}
-use Rattle.restores.specs.declared.Handoff.{Handoff}
-use Rattle.restores.specs.Steps.{Handed}
 use Rattle.parts.specs.Seats.{seats}
-use Rattle.parts.specs.Parts.{at, unackedAt, outboxIn, handoffIn}
+use Rattle.parts.specs.Parts.{at, unackedAt, outboxIn}
 use Rattle.parts.specs.Frames.{Past}
 
 -- only what lies between two indices changes
@@ -43,9 +41,3 @@ pub record TakenIn (x : Reliable) (ns ks : List ℕ) (bodies : Bytes) (w h b : L
   pub size : length b′ ≡ length b
   pub bytes : (i : ℕ) → 512 ≤ i → (i ≡ 768 → ⊥) → at b′ i ≡ at b i
   pub disposition : at b′ 768 ≡ x .disposition
-
--- the handoff is the one given
-pub record HandedIn (given : Handoff) (body : Bytes) (w b w′ b′ : List ℕ) : Type 0 where
-  pub handed : Handed given body (handoffIn w′ b′)
-  pub words : Between 7 10 w w′
-  pub bytes : Between 773 4872 b b′

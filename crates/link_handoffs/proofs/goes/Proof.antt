@@ -1,5 +1,5 @@
 use Rattle.link_handoffs.proofs.Commands.{exact-in, holding-in, by-command}
-use Rattle.link_starts.proofs.Handoffs.{flag-there, flag-gone}
+use Rattle.link_restores.proofs.Handoffs.{flag-there, flag-gone}
 use Rattle.handoffs.proofs.Commands.{a-command, is-none}
 use borrow.Author.Tests.{not-true, not-false}
 use borrow.Author.Needs.{needs}

@@ -1,4 +1,4 @@
-use Rattle.link_starts.proofs.Handoffs.{body-told}
+use Rattle.link_restores.proofs.Handoffs.{body-told}
 use mathlib.Core.Path.{sym}
 use borrow.Author.Needs.{needs}
 use Rattle.link_handoffs.proofs.same_body.Statement.{statement}

@@ -1,9 +1,9 @@
 use native.Mathlib.Omega.{arith}
 use borrow.Author.Tests.{not-true, not-false}
-use Rattle.link_starts.proofs.Handoffs.{hands-none, hands-at, short-body}
+use Rattle.link_restores.proofs.Handoffs.{hands-none, hands-at, short-body}
 use borrow.Author.Needs.{needs}
-use Rattle.link_starts.proofs.hand.Statement.{statement}
-use Rattle.link_starts.proofs.hand.Tie as tie
+use Rattle.link_restores.proofs.hand.Statement.{statement}
+use Rattle.link_restores.proofs.hand.Tie as tie
 
 sized-requires : tie.Need-sized-requires
 sized-requires c κs = search needs

@@ -1,10 +1,10 @@
 use borrow.Author.Tests.{not-true, not-false}
 use Rattle.restores.proofs.Handoffs.{none-there, none-given, both}
 use Rattle.parts.specs.Parts.{handoffIn}
-use Rattle.link_starts.proofs.Handoffs.{flag-there, flag-gone, within-four}
+use Rattle.link_restores.proofs.Handoffs.{flag-there, flag-gone, within-four}
 use borrow.Author.Needs.{needs}
-use Rattle.link_starts.proofs.agrees.Statement.{statement}
-use Rattle.link_starts.proofs.agrees.Tie as tie
+use Rattle.link_restores.proofs.agrees.Statement.{statement}
+use Rattle.link_restores.proofs.agrees.Tie as tie
 
 element-copy-out-if1 : tie.Need-element-copy-out-if1
 element-copy-out-if1 c = search needs

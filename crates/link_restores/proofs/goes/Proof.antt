@@ -1,9 +1,9 @@
 use mathlib.Core.Path.{sym, _∙_}
 use borrow.Author.Tests.{not-true, not-false}
-use Rattle.link_starts.proofs.Restores.{taking-in, handed-small, other-handoff, goes-in}
+use Rattle.link_restores.proofs.Restores.{taking-in, handed-small, other-handoff, goes-in}
 use borrow.Author.Needs.{needs}
-use Rattle.link_starts.proofs.goes.Statement.{statement}
-use Rattle.link_starts.proofs.goes.Tie as tie
+use Rattle.link_restores.proofs.goes.Statement.{statement}
+use Rattle.link_restores.proofs.goes.Tie as tie
 
 take-requires : tie.Need-take-requires
 take-requires c κs = taking-in (c .before .before .before .before .before .before .before .before .before .args .«record») (c .before .before .before .before .before .before .before .before .before .args .numbers .now) (c .before .before .before .before .before .before .before .before .before .args .lengths .now) (c .before .before .before .before .before .before .before .before .before .args .bodies .now) (c .before .before .before .before .before .before .before .before .before .args .given) (c .before .before .before .before .before .before .before .before .before .args .body .now) (c .before .before .before .before .before .before .before .before .before .args .words .now) (c .before .before .before .before .before .before .before .before .before .args .halves .now) (c .before .before .before .before .before .before .before .before .before .args .bytes .now) (c .before .before .before .before .before .before .before .before .before .args .clock .now) (c .before .before .before .before .before .before .before .before .before .args .outbound .now) (c .before .before .before .before .before .before .before .before .before .pre)

@@ -41,8 +41,9 @@ use Rattle.parts.proofs.After.{agree-all}
 use Rattle.parts.proofs.Opened.{opened-as}
 use Rattle.parts.proofs.Drives.{changes, refuses}
 use Rattle.link_sound.proofs.Parts.{usable}
-use Rattle.link_starts.specs.Steps.{Between, TakingIn, TakenIn, HandedIn}
-use Rattle.link_starts.specs.Restores.{Ready, Turns, Found, Enters}
+use Rattle.link_starts.specs.Steps.{Between, TakingIn, TakenIn}
+use Rattle.link_restores.specs.Handed.{HandedIn}
+use Rattle.link_restores.specs.Restores.{Ready, Turns, Found, Enters}
 
 -- ---- the tests
 

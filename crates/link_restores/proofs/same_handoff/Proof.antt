@@ -4,10 +4,10 @@ use Rattle.restores.specs.Restored.{givenIn}
 use Rattle.restores.specs.Steps.{heldIn}
 use Rattle.restores.proofs.Handoffs.{other-id, other-number, other-body, other-sent, by-acknowledged}
 use Rattle.parts.specs.Parts.{handoffIn}
-use Rattle.link_starts.proofs.Handoffs.{body-told}
+use Rattle.link_restores.proofs.Handoffs.{body-told}
 use borrow.Author.Needs.{needs}
-use Rattle.link_starts.proofs.same_handoff.Statement.{statement}
-use Rattle.link_starts.proofs.same_handoff.Tie as tie
+use Rattle.link_restores.proofs.same_handoff.Statement.{statement}
+use Rattle.link_restores.proofs.same_handoff.Tie as tie
 
 sized-requires : tie.Need-sized-requires
 sized-requires c κs = search needs

@@ -19,9 +19,9 @@ use Rattle.restores.specs.Restored.{givenIn, handoffGiven}
 use Rattle.restores.specs.Steps.{heldIn}
 use Rattle.parts.specs.Parts.{at, flag, section, handoffIn}
 use Rattle.parts.proofs.Fields.{length-section}
 use Rattle.link_starts.specs.Filled.{Filled}
-use Rattle.link_starts.proofs.Filling.{puts, puts-filled}
-use Rattle.link_starts.specs.Steps.{HandedIn}
+use Rattle.link_starts.proofs.Filling.{puts, puts-filled, placed-below, placed-above}
+use Rattle.link_restores.specs.Handed.{HandedIn}
 
 -- what a comparison of the held body tells
 pub body-told : (n : ℕ) (b body : Bytes) {l : Bytes} {r : Bool} → n ≤ 4096 → l ≡ take n (drop 776 b) → r ≡ same l body → same (take n (section 776 4096 b)) body ≡ r
@@ -49,17 +49,6 @@ within-four w b e h = by (flag (at b 775)) e h
     by : (t : Bool) → t ≡ true → (if t then at w 7 else 0) ≤ 4096 → at w 7 ≤ 4096
     by true e h = h
     by false e h = absurd (true≢false (sym e))
-
--- ---- a run of bytes written
-
-module _ (b : List ℕ) (from : ℕ) (v : List ℕ) (room : from + length v ≤ length b) where
-  pub placed-below : (i : ℕ) → i < from → at (placed b from v) i ≡ at b i
-  placed-below i k = sym (getD-take from (placed b from v) i 0 k) ∙ ap (λ (l : List ℕ). at l i) (take-placed-le b from v room from (omega arith)) ∙ getD-take from b i 0 k
-
-  pub placed-above : (i : ℕ) → from + length v ≤ i → at (placed b from v) i ≡ at b i
-  placed-above i k =
-      let z : i + 0 ≡ i = omega arith in
-      ap (at (placed b from v)) (sym z) ∙ sym (getD-drop i (placed b from v) 0 0) ∙ ap (λ (l : List ℕ). at l 0) (drop-placed-ge b from v room i k) ∙ getD-drop i b 0 0 ∙ ap (at b) z
 
 -- ---- the handoff is written
 

@@ -3,10 +3,10 @@ use borrow.Author.Tests.{not-true, not-false}
 use Rattle.starts.proofs.Messages.{long-record}
 use Rattle.restores.proofs.Restores.{size-long, size-small}
 use Rattle.parts.specs.Parts.{parts, openedOf}
-use Rattle.link_starts.proofs.Restores.{short-outbound, short-messages, bad-code, unsound, bad-record, long-handoff, late}
+use Rattle.link_restores.proofs.Restores.{short-outbound, short-messages, bad-code, unsound, bad-record, long-handoff, late}
 use borrow.Author.Needs.{needs}
-use Rattle.link_starts.proofs.enters.Statement.{statement}
-use Rattle.link_starts.proofs.enters.Tie as tie
+use Rattle.link_restores.proofs.enters.Statement.{statement}
+use Rattle.link_restores.proofs.enters.Tie as tie
 
 returns : tie.Need-returns
 returns c = λ t. short-outbound (c .before .before .before .before .before .args .«record») (c .before .before .before .before .before .args .numbers .now) (c .before .before .before .before .before .args .lengths .now) (c .before .before .before .before .before .args .bodies .now) (c .before .before .before .before .before .args .given) (c .before .before .before .before .before .args .body .now) (parts (c .before .before .before .before .before .args .words .now) (c .before .before .before .before .before .args .halves .now) (c .before .before .before .before .before .args .bytes .now) t) (c .if1 .taken)

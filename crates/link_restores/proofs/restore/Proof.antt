@@ -1,8 +1,8 @@
 use Rattle.parts.specs.Parts.{parts}
-use Rattle.link_starts.proofs.Restores.{passed, away, turned}
+use Rattle.link_restores.proofs.Restores.{passed, away, turned}
 use borrow.Author.Needs.{needs}
-use Rattle.link_starts.proofs.restore.Statement.{statement}
-use Rattle.link_starts.proofs.restore.Tie as tie
+use Rattle.link_restores.proofs.restore.Statement.{statement}
+use Rattle.link_restores.proofs.restore.Tie as tie
 
 enters-requires : tie.Need-enters-requires
 enters-requires c κs = search needs

@@ -1,0 +1,3 @@
+-- What the contracts of a restore in place cite.
+pub mod Handed
+pub mod Restores
