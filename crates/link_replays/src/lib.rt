@@ -10,8 +10,8 @@ ghost use Rattle.rules.specs.Setup.{rejection-complete};
 ghost use Rattle.peer_session.specs.View.{stateOf};
 ghost use Rattle.session.specs.Promise.{CalledWithList, termsIn};
 ghost use Rattle.fetches.specs.Fetched.{AnsweredWithOutbound};
-ghost use Rattle.parts.specs.Codes.{stageOf, answerOf};
-ghost use Rattle.parts.specs.Parts.{parts, codesIn, openedOf};
+ghost use Rattle.parts.specs.Codes.{answerOf};
+ghost use Rattle.parts.specs.Parts.{parts, openedOf};
 ghost use Rattle.parts.specs.Driven.{Driven, DrivenAnswer};
 ghost use Rattle.link_replays.specs.Connects.{Ready, Enters};
 use events::Stop;
@@ -142,19 +142,11 @@ pub fn dirty(words: &Words, halves: &Halves, bytes: &Bytes, clock: &f64) -> bool
     halves[parts::PERSISTED_GENERATION] < halves[parts::GENERATION]
 }
 
-fn setup_in(halves: &Halves, bytes: &Bytes) -> Setup
-    ensures { λ r. ⌜ r ≡ stageOf (codesIn (now (halves .entry)) (now (bytes .entry))) .setup ⌝ }
-{
-    let g = link_codes::codes(halves, bytes);
-    let stage = link_codes::coding::stage_of(g);
-    stage.setup
-}
-
 // Whether a setup waits or has started.
 pub fn accepted(words: &Words, halves: &Halves, bytes: &Bytes, clock: &f64) -> bool
     ensures { λ r. ⌜ ((o q : Bytes) → r ≡ accepted (stateOf (openedOf (parts (now (words .entry)) (now (halves .entry)) (now (bytes .entry)) (now (clock .entry)))) o q)) ⌝ }
 {
-    let setup = setup_in(halves, bytes);
+    let setup = link_codes::setup_in(halves, bytes);
     match setup {
         Setup::None => false,
         Setup::Waiting(_) => true,
@@ -167,7 +159,7 @@ pub fn accepted(words: &Words, halves: &Halves, bytes: &Bytes, clock: &f64) -> b
 pub fn retired(words: &Words, halves: &Halves, bytes: &Bytes, clock: &f64) -> bool
     ensures { λ r. ⌜ ((o q : Bytes) → r ≡ is-retired (stateOf (openedOf (parts (now (words .entry)) (now (halves .entry)) (now (bytes .entry)) (now (clock .entry)))) o q)) ⌝ }
 {
-    let setup = setup_in(halves, bytes);
+    let setup = link_codes::setup_in(halves, bytes);
     match setup {
         Setup::None => false,
         Setup::Waiting(_) => false,
@@ -180,7 +172,7 @@ pub fn retired(words: &Words, halves: &Halves, bytes: &Bytes, clock: &f64) -> bo
 pub fn channel_terms(words: &Words, halves: &Halves, bytes: &Bytes, clock: &f64) -> ChannelTerms
     ensures { λ r. ⌜ ((o q : Bytes) → r ≡ termsIn (stateOf (openedOf (parts (now (words .entry)) (now (halves .entry)) (now (bytes .entry)) (now (clock .entry)))) o q .stage .setup)) ⌝ }
 {
-    let setup = setup_in(halves, bytes);
+    let setup = link_codes::setup_in(halves, bytes);
     match setup {
         Setup::None => ChannelTerms::NotWaiting,
         Setup::Waiting(terms) => ChannelTerms::Waiting(terms),
@@ -193,9 +185,7 @@ pub fn channel_terms(words: &Words, halves: &Halves, bytes: &Bytes, clock: &f64)
 pub fn rejection_complete(words: &Words, halves: &Halves, bytes: &Bytes, clock: &f64) -> bool
     ensures { λ r. ⌜ ((o q : Bytes) → r ≡ rejection-complete (stateOf (openedOf (parts (now (words .entry)) (now (halves .entry)) (now (bytes .entry)) (now (clock .entry)))) o q)) ⌝ }
 {
-    let g = link_codes::codes(halves, bytes);
-    let stage = link_codes::coding::stage_of(g);
-    if stage.disposition == 4 {
+    if link_codes::disposition_in(halves, bytes) == 4 {
         return words[parts::UNACKED] == 0;
     }
     false
