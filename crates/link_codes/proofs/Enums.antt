@@ -1,6 +1,6 @@
 -- Codes to enums, test by test; and an answer as numbers. Assumes nothing.
 use mathlib.Core.Path.{_≡_, sym, ap, _∙_}
-use mathlib.Core.Bool.{true, false}
+use mathlib.Core.Bool.{true, false, not}
 use Prim.Native.Nat.{ℕ, _≤_, _<_}
 use lib.Dec.{eqb}
 use borrow.Author.Tests.{eq-eqb, ne-eqb, le-leb, lt-leb}
@@ -14,7 +14,8 @@ use Rattle.rules.specs.Receiving.{mode-of}
 use Rattle.peer_session.specs.declared.Stage.{Stage}
 use Rattle.parts.specs.declared.StageCodes.{StageCodes}
 use Rattle.parts.specs.declared.LinkAnswer.{LinkAnswer}
-use Rattle.parts.specs.Codes.{good-codes, setupOf, bad-stage, stageOf, answerOf}
+use Rattle.parts.specs.Codes.{good-codes, setupOf, stageOf, answerOf}
+use Rattle.parts.specs.Parts.{flag}
 
 -- ---- tests
 
@@ -70,11 +71,23 @@ module _ (n : ℕ) (a : n ≡ 0 → ⊥) where
       pub mode-retiring : (n ≡ 3 → ⊥) → Retiring ≡ mode-of n
       mode-retiring d = rw (ne-eqb n 0 a, ne-eqb n 1 b, ne-eqb n 2 c, ne-eqb n 3 d)
 
+pub flag-up : (x : ℕ) → (x ≡ 0 → ⊥) → flag x ≡ true
+flag-up x n = ap not (ne-eqb x 0 n)
+
+pub flag-down : (x : ℕ) → x ≡ 0 → flag x ≡ false
+flag-down x e = ap not (eq-eqb x 0 e)
+
 -- ---- stages
 
 module _ (g : StageCodes) where
-  pub stage-bad : good-codes g ≡ false → bad-stage g ≡ stageOf g
-  stage-bad e = rw e
+  pub disposition-good : good-codes g ≡ true → g .disposition ≡ stageOf g .disposition
+  disposition-good e = rw e
+
+  pub disposition-bad : good-codes g ≡ false → 255 ≡ stageOf g .disposition
+  disposition-bad e = rw e
+
+  pub setup-bad : good-codes g ≡ false → Setups.None ≡ stageOf g .setup
+  setup-bad e = rw e
 
   pub stage-good : good-codes g ≡ true → {s : Setup} {m : ReceiveMode} → s ≡ setupOf (g .setup) (record { number = g .terms; initiator = g .initiator }) → m ≡ mode-of (g .mode)
       → _≡_ {A = Stage} (record { disposition = g .disposition; setup = s; mode = m; failed = g .failed }) (stageOf g)
@@ -82,6 +95,9 @@ module _ (g : StageCodes) where
       ap (λ (x : Setup). record { disposition = g .disposition; setup = x; mode = m; failed = g .failed }) a
       ∙ ap (λ (x : ReceiveMode). record { disposition = g .disposition; setup = setupOf (g .setup) (record { number = g .terms; initiator = g .initiator }); mode = x; failed = g .failed }) b
       ∙ rw e
+
+  pub setup-good : good-codes g ≡ true → {s : Setup} → s ≡ setupOf (g .setup) (record { number = g .terms; initiator = g .initiator }) → s ≡ stageOf g .setup
+  setup-good e a = a ∙ rw e
 
 -- ---- answers
 

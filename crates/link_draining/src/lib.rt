@@ -38,7 +38,7 @@ pub fn turn_of(words: &Words, halves: &Halves, bytes: &Bytes, clock: &f64) -> Tu
     requires { ⌜ good-codes (codesIn (now halves) (now bytes)) ≡ true ⌝ }
     ensures { λ r. ⌜ r ≡ turnOf (openedOf (parts (now (words .entry)) (now (halves .entry)) (now (bytes .entry)) (now (clock .entry)))) ⌝ }
 {
-    let mode = link_codes::coding::mode_of(bytes[parts::MODE]);
+    let mode = link_codes::mode_of(bytes[parts::MODE]);
     let time = link_codes::clock_in(halves, clock);
     Turn {
         mode: mode,

@@ -9,7 +9,6 @@ use Rattle.rules.specs.declared.Setup.{Setup}
 use Rattle.rules.specs.Clock.{dirty}
 use Rattle.rules.specs.Lists.{Bytes}
 use Rattle.rules.specs.Setup.{rejection-complete}
-use Rattle.peer_session.specs.declared.Stage.{Stage}
 use Rattle.peer_session.specs.View.{stateOf}
 use Rattle.session.proofs.Queries.{complete-yes, complete-no}
 use Rattle.parts.specs.Codes.{stageOf}
@@ -26,12 +25,11 @@ module _ (w h b : List ℕ) (t : Float) (o q : Bytes) where
   unfolding openedOf
   asked f is e = ap f (sym e ∙ is)
 
-  module _ {g : Stage} (is : g ≡ stageOf (codesIn h b)) where
-    pub is-complete : g .disposition ≡ 4 → eqb (at w 1) 0 ≡ rejection-complete (stateOf (openedOf (parts w h b t)) o q)
+  module _ {d : ℕ} (is : d ≡ stageOf (codesIn h b) .disposition) where
+    pub is-complete : d ≡ 4 → eqb (at w 1) 0 ≡ rejection-complete (stateOf (openedOf (parts w h b t)) o q)
     unfolding openedOf
-    is-complete e =
-        complete-yes (stageOf (codesIn h b) .disposition) (outboxIn w h b) o (length-seats 256 (unackedAt h b)) (sym (ap (λ (x : Stage). x .disposition) is) ∙ e)
+    is-complete e = complete-yes (stageOf (codesIn h b) .disposition) (outboxIn w h b) o (length-seats 256 (unackedAt h b)) (sym is ∙ e)
 
-    pub is-not-complete : (g .disposition ≡ 4 → ⊥) → false ≡ rejection-complete (stateOf (openedOf (parts w h b t)) o q)
+    pub is-not-complete : (d ≡ 4 → ⊥) → false ≡ rejection-complete (stateOf (openedOf (parts w h b t)) o q)
     unfolding openedOf
-    is-not-complete e = complete-no (stageOf (codesIn h b) .disposition) _ (λ d. e (ap (λ (x : Stage). x .disposition) is ∙ d))
+    is-not-complete e = complete-no (stageOf (codesIn h b) .disposition) _ (λ f. e (is ∙ f))

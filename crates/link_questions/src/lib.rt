@@ -6,8 +6,7 @@ ghost use Rattle.rules.specs.Queries.{accepted, is-retired};
 ghost use Rattle.rules.specs.Setup.{rejection-complete};
 ghost use Rattle.peer_session.specs.View.{stateOf};
 ghost use Rattle.session.specs.Promise.{termsIn};
-ghost use Rattle.parts.specs.Codes.{stageOf};
-ghost use Rattle.parts.specs.Parts.{parts, codesIn, openedOf};
+ghost use Rattle.parts.specs.Parts.{parts, openedOf};
 use parts::Bytes;
 use parts::Halves;
 use parts::Words;
@@ -21,19 +20,11 @@ pub fn dirty(words: &Words, halves: &Halves, bytes: &Bytes, clock: &f64) -> bool
     halves[parts::PERSISTED_GENERATION] < halves[parts::GENERATION]
 }
 
-fn setup_in(halves: &Halves, bytes: &Bytes) -> Setup
-    ensures { λ r. ⌜ r ≡ stageOf (codesIn (now (halves .entry)) (now (bytes .entry))) .setup ⌝ }
-{
-    let g = link_codes::codes(halves, bytes);
-    let stage = link_codes::coding::stage_of(g);
-    stage.setup
-}
-
 // Whether a setup waits or has started.
 pub fn accepted(words: &Words, halves: &Halves, bytes: &Bytes, clock: &f64) -> bool
     ensures { λ r. ⌜ ((o q : Bytes) → r ≡ accepted (stateOf (openedOf (parts (now (words .entry)) (now (halves .entry)) (now (bytes .entry)) (now (clock .entry)))) o q)) ⌝ }
 {
-    let setup = setup_in(halves, bytes);
+    let setup = link_codes::setup_in(halves, bytes);
     match setup {
         Setup::None => false,
         Setup::Waiting(_) => true,
@@ -46,7 +37,7 @@ pub fn accepted(words: &Words, halves: &Halves, bytes: &Bytes, clock: &f64) -> b
 pub fn retired(words: &Words, halves: &Halves, bytes: &Bytes, clock: &f64) -> bool
     ensures { λ r. ⌜ ((o q : Bytes) → r ≡ is-retired (stateOf (openedOf (parts (now (words .entry)) (now (halves .entry)) (now (bytes .entry)) (now (clock .entry)))) o q)) ⌝ }
 {
-    let setup = setup_in(halves, bytes);
+    let setup = link_codes::setup_in(halves, bytes);
     match setup {
         Setup::None => false,
         Setup::Waiting(_) => false,
@@ -59,7 +50,7 @@ pub fn retired(words: &Words, halves: &Halves, bytes: &Bytes, clock: &f64) -> bo
 pub fn channel_terms(words: &Words, halves: &Halves, bytes: &Bytes, clock: &f64) -> ChannelTerms
     ensures { λ r. ⌜ ((o q : Bytes) → r ≡ termsIn (stateOf (openedOf (parts (now (words .entry)) (now (halves .entry)) (now (bytes .entry)) (now (clock .entry)))) o q .stage .setup)) ⌝ }
 {
-    let setup = setup_in(halves, bytes);
+    let setup = link_codes::setup_in(halves, bytes);
     match setup {
         Setup::None => ChannelTerms::NotWaiting,
         Setup::Waiting(terms) => ChannelTerms::Waiting(terms),
@@ -72,9 +63,7 @@ pub fn channel_terms(words: &Words, halves: &Halves, bytes: &Bytes, clock: &f64)
 pub fn rejection_complete(words: &Words, halves: &Halves, bytes: &Bytes, clock: &f64) -> bool
     ensures { λ r. ⌜ ((o q : Bytes) → r ≡ rejection-complete (stateOf (openedOf (parts (now (words .entry)) (now (halves .entry)) (now (bytes .entry)) (now (clock .entry)))) o q)) ⌝ }
 {
-    let g = link_codes::codes(halves, bytes);
-    let stage = link_codes::coding::stage_of(g);
-    if stage.disposition == 4 {
+    if link_codes::disposition_in(halves, bytes) == 4 {
         return words[parts::UNACKED] == 0;
     }
     false

@@ -23,7 +23,7 @@ use Rattle.parts.specs.Parts.{at, outboxIn, queueIn, waitingIn, retryIn, policy
 use Rattle.link_numbers.specs.Sets.{Rising}
 use Rattle.link_numbers.proofs.Sets.{section-room}
 use Rattle.link_numbers.proofs.Asked.{tail-ascends}
-use Rattle.link_sound.proofs.Sounds.{disposition-bad}
+use Rattle.link_codes.proofs.Enums.{disposition-bad}
 
 -- the parts of a sound session, each as calls on it ask
 pub record Usable (w h b : List ℕ) : Type 0 where

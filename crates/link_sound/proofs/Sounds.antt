@@ -1,14 +1,12 @@
 -- The check of a session in place, test by test. Assumes nothing.
 use Prim.Native.Nat.{ℕ, _+_, _-_, _≤_, _<_}
 use mathlib.Core.Path.{_≡_, sym, ap, _∙_, subst}
-use mathlib.Core.Bool.{Bool, true, false, not}
+use mathlib.Core.Bool.{Bool, true, false}
 use mathlib.Core.List.{List}
 use native.Mathlib.Omega.{arith}
-use lib.ListN.{length, getD, length-take, length-drop}
+use lib.ListN.{length, getD}
 use lib.Seq.{slice}
-use lib.Dec.{eqb}
 use lib.Ieee.{Float}
-use borrow.Author.Tests.{eq-eqb, ne-eqb, le-leb, lt-leb}
 use Rattle.stores.specs.Admitted.{admitted}
 use Rattle.stores.proofs.Scans.{admitted-on, admitted-not}
 use Rattle.stores.proofs.Chains.{is-skip, is-stop}
@@ -19,11 +17,11 @@ use Rattle.queue.specs.Sound.{admitsQueued, soundQueue}
 use Rattle.queue.proofs.Sound.{admits-fits}
 use Rattle.peer_session.specs.View.{handoff-length}
 use Rattle.peer_session.specs.Sound.{Full, Checked, soundAcks, soundSizes, soundOf}
-use Rattle.parts.specs.declared.StageCodes.{StageCodes}
 use Rattle.parts.specs.Seats.{seats}
-use Rattle.parts.specs.Codes.{good-codes, stageOf}
-use Rattle.parts.specs.Parts.{at, flag, section, queuedAt, queueIn, outboxIn, policyIn, waitingIn, retryIn, codesIn, handoffIn, parts, openedOf}
+use Rattle.parts.specs.Codes.{stageOf}
+use Rattle.parts.specs.Parts.{at, queuedAt, queueIn, outboxIn, policyIn, waitingIn, retryIn, codesIn, handoffIn, parts, openedOf}
 use Rattle.parts.proofs.Seats.{length-seats, getD-seats}
+use Rattle.parts.proofs.Fields.{length-section}
 use Rattle.link_sound.specs.Sizes.{Sized, admits}
 
 -- ---- the queued frames from index i on, by where the first lies
@@ -63,43 +61,7 @@ frame-tested w h b i last sum el e = sym (e ∙ ap (λ (k : ℕ). admits (at w 1
 pub frame-room : (w h b : List ℕ) (i last sum : ℕ) → admitsQueued (policyIn w) last sum (queuedAt w h b i) ≡ true → at h (512 + i) ≤ at w 12 - sum
 frame-room w h b i last sum e = admits-fits (policyIn w) last sum (queuedAt w h b i) e .room
 
--- ---- codes
-
-module _ (g : StageCodes) where
-  pub bad-setup : 3 < g .setup → false ≡ good-codes g
-  bad-setup h = rw (lt-leb (g .setup) 3 h)
-
-  module _ (a : g .setup ≤ 3) where
-    pub bad-mode : 4 < g .mode → false ≡ good-codes g
-    bad-mode h = rw (le-leb (g .setup) 3 a, lt-leb (g .mode) 4 h)
-
-    module _ (b : g .mode ≤ 4) where
-      pub waits : g .setup ≡ 1 → true ≡ good-codes g
-      waits e = rw (le-leb (g .setup) 3 a, le-leb (g .mode) 4 b, eq-eqb (g .setup) 1 e)
-
-      module _ (n : g .setup ≡ 1 → ⊥) where
-        pub bad-initiator : g .initiator ≡ true → false ≡ good-codes g
-        bad-initiator e = rw (le-leb (g .setup) 3 a, le-leb (g .mode) 4 b, ne-eqb (g .setup) 1 n, e)
-
-        pub terms-decide : g .initiator ≡ false → eqb (g .terms) 0 ≡ good-codes g
-        terms-decide e = rw (le-leb (g .setup) 3 a, le-leb (g .mode) 4 b, ne-eqb (g .setup) 1 n, e)
-
-  pub disposition-good : good-codes g ≡ true → g .disposition ≡ stageOf g .disposition
-  disposition-good e = rw e
-
-  pub disposition-bad : good-codes g ≡ false → 255 ≡ stageOf g .disposition
-  disposition-bad e = rw e
-
-pub flag-up : (x : ℕ) → (x ≡ 0 → ⊥) → flag x ≡ true
-flag-up x n = ap not (ne-eqb x 0 n)
-
-pub flag-down : (x : ℕ) → x ≡ 0 → flag x ≡ false
-flag-down x e = ap not (eq-eqb x 0 e)
-
 -- ---- all of it
-
-section-size : (from n : ℕ) (l : List ℕ) → from + n ≤ length l → length (section from n l) ≡ n
-section-size from n l h = simp (length-take, length-drop) (omega arith)
 
 module _ (w h b : List ℕ) (s : Sized w b) (t : Float) where
   full : Full (openedOf (parts w h b t))
@@ -108,10 +70,10 @@ module _ (w h b : List ℕ) (s : Sized w b) (t : Float) where
       record {
         unacked = length-seats 256 _;
         queue = length-seats 256 _;
-        waiting = section-size 272 512 w (omega (arith, s .words));
-        retry = section-size 784 512 w (omega (arith, s .words));
-        handoff = section-size 776 4096 b (omega (arith, s .bytes));
-        reject = section-size 4872 64 b (omega (arith, s .bytes));
+        waiting = length-section 272 512 w (omega (arith, s .words));
+        retry = length-section 784 512 w (omega (arith, s .words));
+        handoff = length-section 776 4096 b (omega (arith, s .bytes));
+        reject = length-section 4872 64 b (omega (arith, s .bytes));
       }
 
   pub no-outbox : soundOutbox (outboxIn w h b) ≡ false → Checked (openedOf (parts w h b t)) false

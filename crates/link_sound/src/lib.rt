@@ -8,8 +8,7 @@ ghost use Rattle.queue.specs.View.{numQ, lenQ};
 ghost use Rattle.queue.specs.Sound.{admitsQueued, soundQueue};
 ghost use Rattle.peer_session.specs.Sound.{soundAcks, Checked};
 ghost use Rattle.parts.specs.Seats.{seats};
-ghost use Rattle.parts.specs.Codes.{good-codes, stageOf};
-ghost use Rattle.parts.specs.Parts.{at, queuedAt, queueIn, policyIn, waitingIn, retryIn, codesIn, parts, openedOf};
+ghost use Rattle.parts.specs.Parts.{at, queuedAt, queueIn, policyIn, waitingIn, retryIn, parts, openedOf};
 ghost use Rattle.link_sound.specs.Sizes.{Sized, admits};
 use parts::Bytes;
 use parts::Halves;
@@ -129,37 +128,6 @@ pub fn sound_acks(words: &Words) -> bool
     link_numbers::ascends(words, parts::RETRY_NUMBERS, retries)
 }
 
-// ---- the stage
-
-// Codes that a session closes to: those of the lists in `parts`, and terms only of a setup that waits.
-fn good_codes(halves: &Halves, bytes: &Bytes) -> bool
-    ensures { λ r. ⌜ r ≡ good-codes (codesIn (now (halves .entry)) (now (bytes .entry))) ⌝ }
-{
-    let setup = bytes[parts::SETUP];
-    if 3 < setup {
-        return false;
-    }
-    if 4 < bytes[parts::MODE] {
-        return false;
-    }
-    if setup == 1 {
-        return true;
-    }
-    if bytes[parts::INITIATOR] != 0 {
-        return false;
-    }
-    halves[parts::TERMS] == 0
-}
-
-fn disposition_of(halves: &Halves, bytes: &Bytes) -> u8
-    ensures { λ r. ⌜ r ≡ stageOf (codesIn (now (halves .entry)) (now (bytes .entry))) .disposition ⌝ }
-{
-    if good_codes(halves, bytes) {
-        return bytes[parts::DISPOSITION];
-    }
-    255
-}
-
 // ---- all of it
 
 pub fn sound(words: &Words, halves: &Halves, bytes: &Bytes) -> bool
@@ -177,6 +145,6 @@ pub fn sound(words: &Words, halves: &Halves, bytes: &Bytes) -> bool
     }
     let present = bytes[parts::HANDOFF_PRESENT] != 0;
     let h = peer_session::handoff_length(present, words[parts::HANDOFF_LEN] as usize);
-    let d = disposition_of(halves, bytes);
+    let d = link_codes::disposition_in(halves, bytes);
     peer_session::sound_sizes(d, h, words[parts::REJECT_LEN] as usize)
 }

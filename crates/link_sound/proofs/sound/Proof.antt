@@ -55,8 +55,8 @@ handoff-length-requires : tie.Need-handoff-length-requires
 handoff-length-requires c κs = search needs
 
 -- src/lib.rt:187:9
-disposition-of-requires : tie.Need-disposition-of-requires
-disposition-of-requires c κs = search needs
+disposition-in-requires : tie.Need-disposition-in-requires
+disposition-in-requires c κs = search needs
 
 -- src/lib.rt:188:37
 element-copy-out-sound-sizes : tie.Need-element-copy-out-sound-sizes
@@ -74,7 +74,7 @@ returns-4 c = λ t.
     (sym (c .before .before .before .before .before .before .before .before .before .before .before .sound .ensures (a .bytes .now)) ∙ not-false _ (c .before .before .before .before .before .before .before .before .before .before .if1 .left))
     (sym (c .before .before .before .before .before .before .before .before .before .sound-queue .ensures) ∙ not-false _ (c .before .before .before .before .before .before .before .before .if2 .left))
     (sym (c .before .before .before .before .before .before .before .sound-acks .ensures) ∙ not-false _ (c .before .before .before .before .before .before .if3 .left))
-    (c .before .before .disposition-of .ensures)
+    (c .before .before .disposition-in .ensures)
     (c .before .before .before .handoff-length .ensures)
     (c .sound-sizes .ensures)
 
@@ -92,7 +92,7 @@ sound-spec =
     element-copy-out-present
     element-copy-out-handoff-length
     handoff-length-requires
-    disposition-of-requires
+    disposition-in-requires
     element-copy-out-sound-sizes
     sound-sizes-requires
     returns-4)

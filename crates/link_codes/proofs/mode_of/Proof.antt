@@ -1,6 +1,6 @@
 use Rattle.link_codes.proofs.Enums.{mode-raw, mode-proposal, mode-channel, mode-rejection, mode-retiring}
-use Rattle.link_codes.proofs.coding.mode_of.Statement.{statement}
-use Rattle.link_codes.proofs.coding.mode_of.Tie as tie
+use Rattle.link_codes.proofs.mode_of.Statement.{statement}
+use Rattle.link_codes.proofs.mode_of.Tie as tie
 
 returns : tie.Need-returns
 returns c = mode-raw (c .before .args .code) (c .if1 .taken)

@@ -1,6 +1,6 @@
 use Rattle.link_codes.proofs.Enums.{setup-waiting, setup-started, setup-retired, setup-none}
-use Rattle.link_codes.proofs.coding.setup_of.Statement.{statement}
-use Rattle.link_codes.proofs.coding.setup_of.Tie as tie
+use Rattle.link_codes.proofs.setup_of.Statement.{statement}
+use Rattle.link_codes.proofs.setup_of.Tie as tie
 
 returns : tie.Need-returns
 returns c = setup-waiting (c .before .args .code) (c .before .args .terms) (c .if1 .taken)
