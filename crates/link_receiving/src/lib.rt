@@ -235,7 +235,7 @@ fn enqueue(
     parts::full_words(words);
     parts::full_bytes(bytes);
     let c = link_codes::reading::clock_in(halves, clock);
-    if link_queue::find(words, number) {
+    if link_queue::holds(words, number) {
         let n = events::request(c, list, 0);
         return link_draining::carry(
             words,
@@ -266,8 +266,8 @@ fn enqueue(
             Refusal::QueueCount,
         );
     }
-    let used = link_queue::start(halves, count as usize);
-    if words[parts::POLICY_BYTES] < (used + body.len()) as u64 {
+    let end = link_queue::start(halves, count as usize);
+    if words[parts::POLICY_BYTES] < (end + body.len()) as u64 {
         return link_draining::fail(
             words,
             halves,
@@ -279,7 +279,7 @@ fn enqueue(
             Refusal::QueueBytes,
         );
     }
-    link_queue::insert(words, halves, bytes, queue, number, kind, body);
+    link_queue::insert(words, halves, bytes, queue, end, number, kind, body);
     let n = events::request(c, list, 0);
     link_draining::carry(
         words,
