@@ -30,8 +30,8 @@ use Rattle.parts.proofs.Drives.{refuses, changes}
 use Rattle.link_sound.proofs.Parts.{usable}
 use Rattle.link_draining.specs.declared.Ending.{Ending}
 use Rattle.link_draining.specs.Endings.{endedOf}
-use Rattle.link_receiving.specs.Entry.{Spends, Enters}
-use Rattle.link_receiving.proofs.Entry.{found-by, arrives}
+use Rattle.link_checks.specs.Entry.{Spends, Enters}
+use Rattle.link_checks.proofs.Entry.{found-by, arrives}
 use Rattle.link_consumers.specs.Modes.{Readying}
 use Rattle.link_consumers.proofs.Modes.{good-after, with-its-mode}
 

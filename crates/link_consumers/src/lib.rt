@@ -63,7 +63,7 @@ pub fn consumer_ready(
 ) -> LinkAnswer
     ensures { λ x. ⌜ Driven (parts (now (words .entry)) (now (halves .entry)) (now (bytes .entry)) (now (clock .entry))) (parts (now (words .exit)) (now (halves .exit)) (now (bytes .exit)) (now (clock .exit))) x (λ s y. Called (is-ready status mode) s (lent (now (list .entry)) (now (delivery .entry)) (now (outbound .entry)) (now (queue .entry))) y (lent (now (list .exit)) (now (delivery .exit)) (now (outbound .exit)) (now (queue .exit)))) ⌝ }
 {
-    let stop = link_receiving::enters(
+    let stop = link_checks::enters(
         words,
         halves,
         bytes,

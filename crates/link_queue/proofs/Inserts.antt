@@ -14,7 +14,7 @@ use Rattle.rules.specs.State as R
 use Rattle.rules.specs.State.{frame-number, is-frame}
 use Rattle.queue.specs.declared.Queued.{Queued}
 use Rattle.queue.specs.declared.Queue.{Queue}
-use Rattle.queue.specs.View.{recordQ, usedQ, framesOf, ExactQueue}
+use Rattle.queue.specs.View.{recordQ, usedQ, endQ, framesOf, ExactQueue}
 use Rattle.queue.specs.Steps.{arrived, Leads, Room, Enters, with-at}
 use Rattle.queue.proofs.View.{frames-length, frames-records, repacked-as, put-is}
 use Rattle.queue.proofs.Changes.{inserted, none-left}
@@ -187,11 +187,11 @@ module _ (w h b : List ℕ) (q : Bytes) (number kind : ℕ) (body : Bytes) (r : 
         ap (λ (xs : List R.Frame). xs ++ (a ∷ drop k fs)) (take-all k fs (omega (arith, frames-length (queueIn w h b) q (r .exact))))
         ∙ ap (λ (xs : List R.Frame). fs ++ (a ∷ xs)) (ap (λ (j : ℕ). drop j fs) last ∙ none-left (queueIn w h b) q (r .exact))
 
-    pub joins-last : (end : ℕ) → end ≡ bodies h (at w 4) → length w ≡ 1296 → length h ≡ 772 → length b ≡ 4936 → Joins w h b (length q) end (length body)
+    pub joins-last : (end : ℕ) → end ≡ endQ (queueIn w h b) → length w ≡ 1296 → length h ≡ 772 → length b ≡ 4936 → Joins w h b (length q) end (length body)
     joins-last end e lw lh lb =
         record {
           room = record { exact = r .exact; within = omega arith; free = r .free; short = r .short };
-          is = e ∙ sym (end-bodies w h b (r .exact .few));
+          is = e;
           words = lw;
           halves = lh;
           bytes = lb;

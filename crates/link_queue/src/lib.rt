@@ -1,5 +1,6 @@
 // The frames that came too early, of a session that C lends, worked on where they lie.
 ghost use mathlib.Core.Path.{_≡_};
+ghost use mathlib.Core.Bool.{true};
 ghost use mathlib.Core.List.{List, []};
 ghost use Prim.Native.Nat.{ℕ, _+_, _-_, _≤_};
 ghost use lib.Dec.{eqb};
@@ -8,10 +9,10 @@ ghost use Rattle.stores.specs.Placed.{placed};
 ghost use Rattle.rules.specs.Lists.{Bytes, if_then_else_, any, put};
 ghost use Rattle.rules.specs.State.{is-frame, frame-number};
 ghost use Rattle.queue.specs.View.{framesOf, ExactQueue};
-ghost use Rattle.queue.specs.Steps.{arrived, Leads, Room, Enters, with-at};
+ghost use Rattle.queue.specs.Steps.{arrived, Leads, Room, with-at};
 ghost use Rattle.parts.specs.Parts.{at, queueIn};
 ghost use Rattle.link_queue.specs.Joins.{Joins, Joined};
-ghost use Rattle.link_queue.specs.Steps.{bodies, Summing, Requeued};
+ghost use Rattle.link_queue.specs.Steps.{bodies, Summing, Topped, Below, Entering, Requeued};
 use parts::Bytes;
 use parts::Halves;
 use parts::Words;
@@ -46,7 +47,19 @@ fn same_of(a: u64, b: u64) -> u64
     0
 }
 
-// Whether a frame of this number is queued. All are looked at, as a frame that comes is mostly new.
+// Whether a number is above all that are queued, as that of a frame that comes mostly is.
+fn above(words: &Words, number: u64) -> bool
+    requires { ⌜ Topped (now words) ⌝ }
+    ensures { λ r. ⌜ (r ≡ true → Below number (now (words .entry))) ⌝ }
+{
+    let n = words[parts::QUEUED] as usize;
+    if n == 0 {
+        return true;
+    }
+    words[parts::QUEUED_NUMBERS - 1 + n] < number
+}
+
+// Whether a frame of this number is queued. All are looked at, which is quicker than to stop.
 pub fn find(words: &Words, number: u64) -> bool
     requires { ⌜ at (now words) 4 ≤ 256 ⌝ }
     ensures { λ r. ⌜ ((h b : List ℕ) (o : Bytes) → r ≡ any (is-frame number) (framesOf (queueIn (now (words .entry)) h b) o)) ⌝ }
@@ -59,6 +72,17 @@ pub fn find(words: &Words, number: u64) -> bool
         i += 1;
     }
     0 < sum
+}
+
+// The same, of frames that rise.
+pub fn holds(words: &Words, number: u64) -> bool
+    requires { ⌜ Topped (now words) ⌝ }
+    ensures { λ r. ⌜ ((h b : List ℕ) (o : Bytes) → r ≡ any (is-frame number) (framesOf (queueIn (now (words .entry)) h b) o)) ⌝ }
+{
+    if above(words, number) {
+        return false;
+    }
+    find(words, number)
 }
 
 // How many frames at the front have a number up to this one.
@@ -149,29 +173,28 @@ fn insert_at(
     bytes[parts::QUEUED_KINDS + k] = kind;
 }
 
-// A frame whose number is not queued goes to its place by rising number, mostly after all others.
+// A frame whose number is not queued goes to its place by rising number, mostly after all others, whose bodies end at index end of the store.
 pub fn insert(
     words: &mut Words,
     halves: &mut Halves,
     bytes: &mut Bytes,
     store: &mut [u8],
+    end: usize,
     number: u64,
     kind: u8,
     body: &[u8],
 )
-    requires { ⌜ Enters (queueIn (now words) (now halves) (now bytes)) (now store) number (length (now body)) ⌝ }
+    requires { ⌜ Entering (now words) (now halves) (now bytes) (now store) end number (length (now body)) ⌝ }
     ensures { λ _. ⌜ Requeued (put frame-number (arrived number kind (now (body .entry))) (framesOf (queueIn (now (words .entry)) (now (halves .entry)) (now (bytes .entry))) (now (store .entry)))) (now (words .entry)) (now (halves .entry)) (now (bytes .entry)) (now (store .entry)) (now (words .exit)) (now (halves .exit)) (now (bytes .exit)) (now (store .exit)) ⌝ }
 {
     full_words(words);
     full_halves(halves);
     full_bytes(bytes);
-    let k = up_to(words, number);
-    let count = words[parts::QUEUED] as usize;
-    if k == count {
-        let end = start(halves, count);
+    if above(words, number) {
         join(words, halves, bytes, store, end, number, kind, body);
         return;
     }
+    let k = up_to(words, number);
     insert_at(words, halves, bytes, store, k, number, kind, body);
 }
 

@@ -40,9 +40,10 @@ use Rattle.link_sound.proofs.Parts.{usable}
 use Rattle.link_draining.specs.declared.Ending.{Ending}
 use Rattle.link_draining.specs.Endings.{endedOf}
 use Rattle.link_draining.specs.Steps.{Failing}
-use Rattle.link_receiving.specs.Entry.{Spends, Enters}
-use Rattle.link_receiving.proofs.Entry.{found-by, arrives}
-use Rattle.link_receiving.specs.Steps.{Countable, Judged, Arriving, Receiving, Taking}
+use Rattle.link_checks.specs.Entry.{Spends, Enters}
+use Rattle.link_checks.specs.Checks.{Countable, Judged}
+use Rattle.link_checks.proofs.Entry.{found-by, arrives}
+use Rattle.link_receiving.specs.Steps.{Arriving, Receiving, Taking}
 
 module _ (status : HostStatus) (f : Frame) (w h b : List ℕ) (t : Float) (l : List ℕ) (d o q : Bytes) (pre : Arriving f w h b t l d o q) where
   abbrev p : Parts

@@ -1,5 +1,3 @@
--- The laws of data in any mode, in place: `Entry` the tests at the entry; `Checks` the verdict; `Steps` the steps, from those of the driver's call; `Drives` the call.
-pub mod Entry
-pub mod Checks
+-- The laws of data in any mode, in place: `Steps` the steps, from those of the driver's call; `Drives` the call.
 pub mod Steps
 pub mod Drives

@@ -25,7 +25,7 @@ use Rattle.numbers.specs.declared.Numbers.{Numbers}
 use Rattle.numbers.specs.Seats.{inUse, ExactNumbers, Holds}
 use Rattle.queue.specs.declared.Queue.{Queue}
 use Rattle.queue.specs.View.{endQ, framesOf, ExactQueue}
-use Rattle.queue.specs.Steps.{Leads, Enters}
+use Rattle.queue.specs.Steps.{Leads}
 use Rattle.peer_session.specs.declared.SessionState.{SessionState}
 use Rattle.peer_session.specs.View.{stateOf, Exact}
 use Rattle.delivery.specs.declared.Turn.{Turn}
@@ -36,13 +36,14 @@ use Rattle.draining.specs.Turns.{with-queue}
 use Rattle.draining.specs.Ends.{Fails, Abandoning, Abandons, Carrying, Carries}
 use Rattle.receiving.specs.Checks.{Acknowledges, Acknowledging, Anew}
 use Rattle.receiving.proofs.Again.{answers-again, waits-again}
-use Rattle.receiving.proofs.Now.{now-abandoning, now-refused, put-fits, request-room, now-carrying, now-taken}
+use Rattle.receiving.proofs.Now.{good, now-abandoning, now-refused, put-fits, request-room, now-carrying, now-taken}
 use Rattle.receiving.proofs.Later.{body-fits, kept-carrying, kept-queued, queue-many, queue-long, enters, joins-carrying, joins-queue}
 use Rattle.parts.specs.Parts.{parts, at, queueIn, waitingIn, clockIn, codesIn, openedOf}
 use Rattle.parts.proofs.Fields.{codes-same}
 use Rattle.link_numbers.specs.Sets.{Rising, Becomes}
-use Rattle.link_queue.specs.Steps.{bodies, Summing, Requeued}
+use Rattle.link_queue.specs.Steps.{bodies, Summing, Topped, Entering, Requeued}
 use Rattle.link_queue.proofs.Sums.{end-bodies}
+use Rattle.link_queue.proofs.Tops.{topped}
 use Rattle.link_sound.proofs.Parts.{usable}
 use Rattle.link_draining.specs.Steps.{Failing}
 use Rattle.link_receiving.specs.Steps.{Taking}
@@ -185,6 +186,10 @@ module _ {status : HostStatus} {u : Turn} {f : Frame} (w h b : List ℕ) (t : Fl
   unfolding openedOf
   exact-later = pre .taking .receiving .exact .queued
 
+  pub topped-later : Topped w
+  unfolding openedOf
+  topped-later = topped w h b q exact-later (at w 2) (good (pre .taking .receiving) .1 .order)
+
   pub sums : Summing h (at w 4)
   sums = record { few = few-later; small = omega (arith, exact-later .small, end-bodies w h b few-later) }
 
@@ -225,9 +230,9 @@ module _ {status : HostStatus} {u : Turn} {f : Frame} (w h b : List ℕ) (t : Fl
         short-at : endQ (queueIn w h b) + length (f .body) ≤ at w 12
         short-at = omega (arith, ends-at)
 
-        pub may-insert : Enters (queueIn w h b) q (f .number) (length (f .body))
+        pub may-insert : Entering w h b q used (f .number) (length (f .body))
         unfolding openedOf
-        may-insert = enters (pre .taking) (sym (is h b q) ∙ new) room short-at
+        may-insert = record { enters = enters (pre .taking) (sym (is h b q) ∙ new) room short-at; topped = topped-later; is = ends-at }
 
         module _ (lw : 1296 ≤ length w) (lb : 4936 ≤ length b) {w₁ h₁ b₁ : List ℕ} {q₁ : Bytes}
             (p : Requeued (put frame-number f (framesOf (queueIn w h b) q)) w h b q w₁ h₁ b₁ q₁) {c : Clock} (ck : c ≡ clockIn h t) {l₁ : List ℕ} {n : ℕ} (li : Listed (asked c) l 0 l₁ n) where

@@ -1,3 +1,2 @@
--- What the contracts of data in any mode cite: `Entry` the tests at the entry, `Steps` what must hold past them.
-pub mod Entry
+-- What the contracts of data in any mode cite: `Steps` what must hold for its steps.
 pub mod Steps

@@ -2,7 +2,6 @@
 ghost use mathlib.Core.Path.{_≡_};
 ghost use mathlib.Core.Bool.{true, false};
 ghost use lib.ListN.{length};
-ghost use Prim.Native.Nat.{_≤_};
 ghost use Rattle.rules.specs.declared.Answer.the-variants.{Flag};
 ghost use Rattle.rules.specs.Calls.{gets-data};
 ghost use Rattle.session.specs.Promise.{lent, Called};
@@ -14,8 +13,7 @@ ghost use Rattle.parts.specs.Parts.{parts, openedOf};
 ghost use Rattle.parts.specs.Driven.{Driven};
 ghost use Rattle.link_numbers.specs.Sets.{Rising};
 ghost use Rattle.link_draining.specs.Endings.{endedOf};
-ghost use Rattle.link_receiving.specs.Entry.{Enters};
-ghost use Rattle.link_receiving.specs.Steps.{Countable, Filled, Judged, Arriving, Receiving, Taking};
+ghost use Rattle.link_receiving.specs.Steps.{Arriving, Receiving, Taking};
 use delivery::Turn;
 use events::Stop;
 use link_draining::Ending;
@@ -23,103 +21,10 @@ use parts::Bytes;
 use parts::Halves;
 use parts::LinkAnswer;
 use parts::Words;
-use peer_session::SessionState;
 use receiving::Verdict;
 use rules::Answer;
 use rules::HostStatus;
 use rules::Refusal;
-
-// ---- the tests at the entry of a call that takes all four buffers
-
-// wrong: a code outside its list.
-pub fn enters(
-    words: &Words,
-    halves: &Halves,
-    bytes: &Bytes,
-    list: usize,
-    delivery: usize,
-    outbound: usize,
-    queue: usize,
-    wrong: bool,
-) -> Stop
-    ensures { λ r. ⌜ Enters (now (words .entry)) (now (halves .entry)) (now (bytes .entry)) wrong list delivery outbound queue r ⌝ }
-{
-    if list < SessionState::EVENT_WORDS {
-        return Stop::By(Refusal::ShortBuffer);
-    }
-    if delivery < SessionState::DELIVERY_BYTES {
-        return Stop::By(Refusal::ShortBuffer);
-    }
-    if outbound < SessionState::OUTBOUND_BYTES {
-        return Stop::By(Refusal::ShortBuffer);
-    }
-    if queue < SessionState::QUEUE_BYTES {
-        return Stop::By(Refusal::ShortBuffer);
-    }
-    if wrong {
-        return Stop::By(Refusal::UnknownCode);
-    }
-    if !link_sound::sound(words, halves, bytes) {
-        return Stop::By(Refusal::BadRecord);
-    }
-    if SessionState::GENERATION_LIMIT <= halves[parts::GENERATION] {
-        return Stop::By(Refusal::GenerationsExhausted);
-    }
-    Stop::No
-}
-
-// ---- checks
-
-// 26: the acks that wait and the frames in the queue are 512 together, and the number is in neither, nor answered by code 10.
-fn acks_full(words: &Words, number: u64) -> bool
-    requires { ⌜ Countable (now words) ⌝ }
-    ensures { λ r. ⌜ Filled number (now (words .entry)) r ⌝ }
-{
-    let waiting = words[parts::WAITING] as usize;
-    let queued = words[parts::QUEUED] as usize;
-    if waiting + queued < SessionState::MAX_WAITING_AND_QUEUED {
-        return false;
-    }
-    if link_numbers::has(words, parts::WAITING_NUMBERS, waiting, number) {
-        return false;
-    }
-    if link_queue::find(words, number) {
-        return false;
-    }
-    if words[parts::REMOTE] < number {
-        return true;
-    }
-    words[parts::RELEASED] < number
-}
-
-// 4; of a number above remote 5 and 6; 26.
-fn check(words: &Words, number: u64, len: usize) -> Verdict
-    requires { ⌜ Countable (now words) ⌝ }
-    ensures { λ r. ⌜ Judged number len (now (words .entry)) r ⌝ }
-{
-    if words[parts::POLICY_BODY] < len as u64 {
-        return Verdict::Fail(Refusal::BodyTooLong);
-    }
-    let remote = words[parts::REMOTE];
-    if remote < number {
-        if words[parts::POLICY_GAP] < number - (remote + 1) {
-            return Verdict::Fail(Refusal::GapTooWide);
-        }
-        if SessionState::LAST_REMOTE < number {
-            return Verdict::Refuse(Refusal::LastNumber);
-        }
-        if acks_full(words, number) {
-            return Verdict::Refuse(Refusal::AcksFull);
-        }
-        return Verdict::New;
-    }
-    if acks_full(words, number) {
-        return Verdict::Refuse(Refusal::AcksFull);
-    }
-    Verdict::Again
-}
-
-// ---- data
 
 // A duplicate: its acknowledgement was lost, or waits for its commit.
 fn receive_again(
@@ -235,7 +140,7 @@ fn enqueue(
     parts::full_words(words);
     parts::full_bytes(bytes);
     let c = link_codes::clock_in(halves, clock);
-    if link_queue::find(words, number) {
+    if link_queue::holds(words, number) {
         let n = events::request(c, list, 0);
         return link_draining::carry(
             words,
@@ -266,8 +171,8 @@ fn enqueue(
             Refusal::QueueCount,
         );
     }
-    let used = link_queue::start(halves, count as usize);
-    if words[parts::POLICY_BYTES] < (used + body.len()) as u64 {
+    let end = link_queue::start(halves, count as usize);
+    if words[parts::POLICY_BYTES] < (end + body.len()) as u64 {
         return link_draining::fail(
             words,
             halves,
@@ -279,7 +184,7 @@ fn enqueue(
             Refusal::QueueBytes,
         );
     }
-    link_queue::insert(words, halves, bytes, queue, number, kind, body);
+    link_queue::insert(words, halves, bytes, queue, end, number, kind, body);
     let n = events::request(c, list, 0);
     link_draining::carry(
         words,
@@ -378,7 +283,7 @@ pub fn receive(
     requires { ⌜ Arriving (frameOf number kind (now body)) (now words) (now halves) (now bytes) (now clock) (now list) (now delivery) (now outbound) (now queue) ⌝ }
     ensures { λ x. ⌜ Driven (parts (now (words .entry)) (now (halves .entry)) (now (bytes .entry)) (now (clock .entry))) (parts (now (words .exit)) (now (halves .exit)) (now (bytes .exit)) (now (clock .exit))) x (λ s y. Called (gets-data status (frameOf number kind (now (body .entry)))) s (lent (now (list .entry)) (now (delivery .entry)) (now (outbound .entry)) (now (queue .entry))) y (lent (now (list .exit)) (now (delivery .exit)) (now (outbound .exit)) (now (queue .exit)))) ⌝ }
 {
-    let verdict = check(words, number, body.len());
+    let verdict = link_checks::check(words, number, body.len());
     match verdict {
         Verdict::Refuse(x) => link_codes::refusal(x),
         Verdict::Fail(x) => {
@@ -426,7 +331,7 @@ pub fn data(
 ) -> LinkAnswer
     ensures { λ x. ⌜ Driven (parts (now (words .entry)) (now (halves .entry)) (now (bytes .entry)) (now (clock .entry))) (parts (now (words .exit)) (now (halves .exit)) (now (bytes .exit)) (now (clock .exit))) x (λ s y. Called (gets-data status (frameOf number kind (now (body .entry)))) s (lent (now (list .entry)) (now (delivery .entry)) (now (outbound .entry)) (now (queue .entry))) y (lent (now (list .exit)) (now (delivery .exit)) (now (outbound .exit)) (now (queue .exit)))) ⌝ }
 {
-    let stop = enters(
+    let stop = link_checks::enters(
         words,
         halves,
         bytes,

@@ -6,7 +6,7 @@ use Rattle.link_receiving.proofs.data.Statement.{statement}
 use Rattle.link_receiving.proofs.data.Tie as tie
 use Rattle.link_receiving.proofs.data.Reads as reads
 use Rattle.link_receiving.proofs.data.Lts as lts
-use Rattle.link_receiving.proofs.enters.Reads as enters-reads
+use Rattle.link_checks.proofs.enters.Reads as enters-reads
 use Rattle.link_receiving.proofs.receive.Reads as receive-reads
 use Rattle.link_codes.proofs.refusal.Reads as refusal-reads
 

@@ -1,9 +1,9 @@
-use Rattle.link_receiving.proofs.Checks.{lies, filled-few, filled-waits, filled-queued, filled-new, filled-again}
+use Rattle.link_checks.proofs.Checks.{lies, filled-few, filled-waits, filled-queued, filled-new, filled-again}
 use borrow.Author.Needs.{needs}
-use Rattle.link_receiving.proofs.acks_full.Statement.{statement}
-use Rattle.link_receiving.proofs.acks_full.Tie as tie
-use Rattle.link_receiving.proofs.acks_full.Reads as reads
-use Rattle.link_receiving.proofs.acks_full.Lts as lts
+use Rattle.link_checks.proofs.acks_full.Statement.{statement}
+use Rattle.link_checks.proofs.acks_full.Tie as tie
+use Rattle.link_checks.proofs.acks_full.Reads as reads
+use Rattle.link_checks.proofs.acks_full.Lts as lts
 use Rattle.link_queue.proofs.find.Reads as find-reads
 use Rattle.link_numbers.proofs.has.Reads as has-reads
 

@@ -1,10 +1,10 @@
 use borrow.Author.Tests.{not-true, not-false}
-use Rattle.link_receiving.proofs.Entry.{list-short, delivery-short, outbound-short, queue-short, code-wrong, unsound, spent, passes}
+use Rattle.link_checks.proofs.Entry.{list-short, delivery-short, outbound-short, queue-short, code-wrong, unsound, spent, passes}
 use borrow.Author.Needs.{needs}
-use Rattle.link_receiving.proofs.enters.Statement.{statement}
-use Rattle.link_receiving.proofs.enters.Tie as tie
-use Rattle.link_receiving.proofs.enters.Reads as reads
-use Rattle.link_receiving.proofs.enters.Lts as lts
+use Rattle.link_checks.proofs.enters.Statement.{statement}
+use Rattle.link_checks.proofs.enters.Tie as tie
+use Rattle.link_checks.proofs.enters.Reads as reads
+use Rattle.link_checks.proofs.enters.Lts as lts
 use Rattle.link_sound.proofs.sound.Reads as sound-reads
 
 returns : tie.Need-returns

@@ -17,7 +17,7 @@ use Rattle.receiving.proofs.Checks.{full-few, full-waits, full-queued, full-new
 use Rattle.parts.specs.Parts.{parts, at, queueIn, openedOf}
 use Rattle.link_numbers.specs.Sets.{Lies, firsts}
 use Rattle.link_numbers.proofs.Sets.{section-room}
-use Rattle.link_receiving.specs.Steps.{Countable, Filled, Judged}
+use Rattle.link_checks.specs.Checks.{Countable, Filled, Judged}
 
 -- ---- 26
 
