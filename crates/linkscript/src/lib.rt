@@ -94,6 +94,33 @@ fn answer(
     }
 }
 
+// Answers the lines of standard input, and returns how much of the output buffer is used.
+fn answer_input(
+    message_number: u64,
+    chunk: &mut [u8; 65536],
+    line: &mut [u8; 131076],
+    body: &mut [u8; 65537],
+    list: &mut [u64; 4096],
+    outbound: &mut [u8; 65536],
+    queue: &mut [u8; 32768],
+    out: &mut [u8; 65536],
+) -> usize
+    ensures { λ r. ⌜ r ≤ 65536 ⌝ }
+{
+    let mut t = begin(message_number, outbound, queue);
+    let mut input = lines::no_input();
+    let mut turns = u64::MAX;
+    while turns > 0 {
+        input = lines::next_line(chunk, line, input);
+        if !input.found {
+            return t.used;
+        }
+        t = answer(line, input.size, body, list, outbound, queue, out, t);
+        turns -= 1;
+    }
+    t.used
+}
+
 // Answers all of standard input, for a fresh session that starts at message_number.
 pub fn run(message_number: u64) {
     let mut chunk = io::large_buffer();
@@ -103,25 +130,15 @@ pub fn run(message_number: u64) {
     let mut outbound = [0u8; 65536];
     let mut queue = [0u8; 32768];
     let mut out = io::large_buffer();
-    let mut t = begin(message_number, &mut outbound, &mut queue);
-    let mut input = lines::no_input();
-    let mut turns = u64::MAX;
-    while turns > 0 {
-        input = lines::next_line(&mut chunk, &mut line, input);
-        if !input.found {
-            break;
-        }
-        t = answer(
-            &line,
-            input.size,
-            &mut body,
-            &mut list,
-            &mut outbound,
-            &mut queue,
-            &mut out,
-            t,
-        );
-        turns -= 1;
-    }
-    lines::flush(&out, t.used);
+    let used = answer_input(
+        message_number,
+        &mut chunk,
+        &mut line,
+        &mut body,
+        &mut list,
+        &mut outbound,
+        &mut queue,
+        &mut out,
+    );
+    lines::flush(&out, used);
 }
