@@ -1,25 +1,15 @@
 // The call script: reads the calls of document 01 from the lines of standard input, makes them on one session, and prints what each answers.
 ghost use Prim.Native.Nat.{_≤_};
 use peer_session::SessionState;
-use reading::Call;
-use reading::Line;
-use reading::Opening;
+use call_reading::Call;
+use call_reading::Line;
+use call_reading::Opening;
 use rules::Answer;
 
-mod calling; // the session's calls
-mod dumping; // its state, printed
-mod fields; // the fields of a line
-mod parts; // parts of lent slices
-mod patterns; // the bits of a clock
-mod printing; // what is printed of a call
-mod reading; // the call of a line
-mod records; // the record of a start or a restore
-
-// The session, whether there is one, the size of the line so far, its number, and how much of the output buffer is used.
+// The session, whether there is one, the number of the line, and how much of the output buffer is used.
 struct Script {
     session: SessionState,
     started: bool,
-    size: usize,
     number: u64,
     used: usize,
 }
@@ -31,7 +21,6 @@ fn begin() -> Script
     Script {
         session: none,
         started: false,
-        size: 0,
         number: 1,
         used: 0,
     }
@@ -45,7 +34,6 @@ fn next(t: Script, session: SessionState, used: usize) -> Script
     Script {
         session: session,
         started: t.started,
-        size: 0,
         number: std::num::wrapping_add_u64(t.number, 1),
         used: used,
     }
@@ -55,7 +43,7 @@ fn answer_wrong(out: &mut [u8; 65536], t: Script) -> Script
     requires { ⌜ t .used ≤ 65536 ⌝ }
     ensures { λ r. ⌜ r .used ≤ 65536 ⌝ }
 {
-    let n = printing::print_wrong(out, t.used, t.number);
+    let n = scripts::print_wrong(out, t.used, t.number);
     next(t, t.session, n)
 }
 
@@ -81,9 +69,9 @@ fn answer_start(
     requires { ⌜ t .used ≤ 65536 ⌝ }
     ensures { λ r. ⌜ r .used ≤ 65536 ⌝ }
 {
-    let r = calling::start(o, numbers, lengths, body, outbound, queue);
+    let r = call_making::start(o, numbers, lengths, body, outbound, queue);
     let a = r.answer;
-    let n = printing::print_call(out, t.used, b"start", a, 0, list, body, outbound);
+    let n = call_printing::print_call(out, t.used, b"start", a, 0, list, body, outbound);
     if is_refused(a) {
         return next(t, t.session, n);
     }
@@ -99,7 +87,7 @@ fn answer_fetch(number: u64, outbound: &[u8; 65536], out: &mut [u8; 65536], t: S
     let s = t.session;
     let a = fetches::find(s, outbound, number);
     let body = fetches::fetch(s, outbound, number);
-    let n = printing::print_fetch(out, t.used, a, body);
+    let n = call_printing::print_fetch(out, t.used, a, body);
     next(t, s, n)
 }
 
@@ -123,7 +111,7 @@ fn answer_call(
         return answer_fetch(number, outbound, out, t);
     }
     let s = t.session;
-    let r = calling::call(
+    let r = call_making::call(
         c,
         s,
         numbers,
@@ -135,7 +123,7 @@ fn answer_call(
         queue,
     );
     let a = r.answer;
-    let n = printing::print_call(out, t.used, word, a, r.events, list, delivery, outbound);
+    let n = call_printing::print_call(out, t.used, word, a, r.events, list, delivery, outbound);
     next(t, r.session, n)
 }
 
@@ -148,7 +136,7 @@ fn answer_state(
     requires { ⌜ t .used ≤ 65536 ⌝ }
     ensures { λ r. ⌜ r .used ≤ 65536 ⌝ }
 {
-    let n = dumping::print_state(out, t.used, t.session, outbound, queue);
+    let n = call_printing::dumping::print_state(out, t.used, t.session, outbound, queue);
     next(t, t.session, n)
 }
 
@@ -210,6 +198,7 @@ fn answer_session(
 
 fn answer(
     line: &[u8; 300000],
+    size: usize,
     numbers: &mut [u64; 257],
     lengths: &mut [u64; 257],
     body: &mut [u8; 150000],
@@ -223,11 +212,11 @@ fn answer(
     requires { ⌜ t .used ≤ 65536 ⌝ }
     ensures { λ r. ⌜ r .used ≤ 65536 ⌝ }
 {
-    let l = reading::read_line(line, t.size, numbers, lengths, body);
+    let l = call_reading::read_line(line, size, numbers, lengths, body);
     if let Line::Start(o) = l {
         return answer_start(o, numbers, lengths, body, list, outbound, queue, out, t);
     }
-    let word = word_of(line, t.size);
+    let word = word_of(line, size);
     answer_session(
         l,
         word,
@@ -243,81 +232,7 @@ fn answer(
     )
 }
 
-fn answer_chunk(
-    chunk: &[u8],
-    line: &mut [u8; 300000],
-    numbers: &mut [u64; 257],
-    lengths: &mut [u64; 257],
-    body: &mut [u8; 150000],
-    list: &mut [u64; 4096],
-    delivery: &mut [u8; 49152],
-    outbound: &mut [u8; 65536],
-    queue: &mut [u8; 32768],
-    out: &mut [u8; 65536],
-    t: Script,
-) -> Script
-    requires { ⌜ t .used ≤ 65536 ⌝ }
-    ensures { λ r. ⌜ r .used ≤ 65536 ⌝ }
-{
-    let mut r = t;
-    let mut at = 0;
-    while at < chunk.len() {
-        let q = text::gather_line(chunk, at, line, r.size);
-        r.size = q.size;
-        if q.whole {
-            r = answer(
-                line,
-                numbers,
-                lengths,
-                body,
-                list,
-                delivery,
-                outbound,
-                queue,
-                out,
-                r,
-            );
-        }
-        at = q.next;
-    }
-    r
-}
-
-// A last line that has no end counts.
-fn answer_last(
-    line: &[u8; 300000],
-    numbers: &mut [u64; 257],
-    lengths: &mut [u64; 257],
-    body: &mut [u8; 150000],
-    list: &mut [u64; 4096],
-    delivery: &mut [u8; 49152],
-    outbound: &mut [u8; 65536],
-    queue: &mut [u8; 32768],
-    out: &mut [u8; 65536],
-    t: Script,
-) -> usize
-    requires { ⌜ t .used ≤ 65536 ⌝ }
-    ensures { λ r. ⌜ r ≤ 65536 ⌝ }
-{
-    if t.size == 0 {
-        return t.used;
-    }
-    let r = answer(
-        line,
-        numbers,
-        lengths,
-        body,
-        list,
-        delivery,
-        outbound,
-        queue,
-        out,
-        t,
-    );
-    r.used
-}
-
-// Answers the lines of standard input that have an end.
+// Answers the lines of standard input, and returns how much of the output buffer is used.
 fn answer_input(
     chunk: &mut [u8; 65536],
     line: &mut [u8; 300000],
@@ -329,19 +244,20 @@ fn answer_input(
     outbound: &mut [u8; 65536],
     queue: &mut [u8; 32768],
     out: &mut [u8; 65536],
-) -> Script
-    ensures { λ r. ⌜ r .used ≤ 65536 ⌝ }
+) -> usize
+    ensures { λ r. ⌜ r ≤ 65536 ⌝ }
 {
     let mut t = begin();
+    let mut input = lines::no_input();
     let mut turns = u64::MAX;
     while turns > 0 {
-        let n = lines::read_some(chunk);
-        if n == 0 {
-            break;
+        input = lines::next_line(chunk, line, input);
+        if !input.found {
+            return t.used;
         }
-        t = answer_chunk(
-            text::front(chunk, n),
+        t = answer(
             line,
+            input.size,
             numbers,
             lengths,
             body,
@@ -354,7 +270,7 @@ fn answer_input(
         );
         turns -= 1;
     }
-    t
+    t.used
 }
 
 // Answers all of standard input.
@@ -369,7 +285,7 @@ pub fn run() {
     let mut outbound = [0u8; 65536];
     let mut queue = [0u8; 32768];
     let mut out = io::large_buffer();
-    let t = answer_input(
+    let used = answer_input(
         &mut chunk,
         &mut line,
         &mut numbers,
@@ -380,18 +296,6 @@ pub fn run() {
         &mut outbound,
         &mut queue,
         &mut out,
-    );
-    let used = answer_last(
-        &line,
-        &mut numbers,
-        &mut lengths,
-        &mut body,
-        &mut list,
-        &mut delivery,
-        &mut outbound,
-        &mut queue,
-        &mut out,
-        t,
     );
     lines::flush(&out, used);
 }

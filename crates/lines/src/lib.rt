@@ -35,6 +35,62 @@ pub fn read_some(chunk: &mut [u8; 65536]) -> usize
     io::count(got, chunk)
 }
 
+// The input so far: the index where the chunk goes on, how much of the chunk is filled, and of the last line its size, which is one more than its
+// buffer's where it is too long, and whether there was one.
+pub struct Input {
+    pub at: usize,
+    pub filled: usize,
+    pub size: usize,
+    pub found: bool,
+}
+
+pub fn no_input() -> Input {
+    Input {
+        at: 0,
+        filled: 0,
+        size: 0,
+        found: false,
+    }
+}
+
+// Puts what the chunk has left of a line after what was read of it.
+fn gather_on(chunk: &[u8; 65536], line: &mut [u8], i: Input) -> Input {
+    let some = text::front(chunk, i.filled);
+    let at = i.at;
+    if some.len() <= at {
+        return i;
+    }
+    let q = text::gather_line(some, at, line, i.size);
+    Input {
+        at: q.next,
+        filled: i.filled,
+        size: q.size,
+        found: q.whole,
+    }
+}
+
+// Reads the next line. A last line that has no end counts.
+pub fn next_line(chunk: &mut [u8; 65536], line: &mut [u8], i: Input) -> Input {
+    let mut r = i;
+    r.size = 0;
+    r.found = false;
+    let mut turns = u64::MAX;
+    while turns > 0 {
+        r = gather_on(chunk, line, r);
+        if r.found {
+            return r;
+        }
+        r.at = 0;
+        r.filled = read_some(chunk);
+        if r.filled == 0 {
+            r.found = 0 < r.size;
+            return r;
+        }
+        turns -= 1;
+    }
+    r
+}
+
 fn write_front(out: &[u8], n: usize)
     requires { ⌜ n ≤ length (now out) ⌝ }
 {

@@ -9,11 +9,10 @@ mod calling; // the session and its calls
 mod printing; // what is printed of a call
 mod reading; // the call of a line
 
-// The session, the record for its next completion, the size of the line so far, its number, and how much of the output buffer is used.
+// The session, the record for its next completion, the number of the line, and how much of the output buffer is used.
 struct Script {
     session: SessionState,
     commit: PreparedCommit,
-    size: usize,
     number: u64,
     used: usize,
 }
@@ -31,7 +30,6 @@ fn begin(message_number: u64, outbound: &mut [u8], queue: &mut [u8]) -> Script
     Script {
         session: session,
         commit: zeros,
-        size: 0,
         number: 1,
         used: 0,
     }
@@ -60,7 +58,6 @@ fn answer_call(
     Script {
         session: session,
         commit: next,
-        size: 0,
         number: number,
         used: n,
     }
@@ -70,9 +67,8 @@ fn answer_wrong(out: &mut [u8; 65536], t: Script) -> Script
     requires { ⌜ t .used ≤ 65536 ⌝ }
     ensures { λ r. ⌜ r .used ≤ 65536 ⌝ }
 {
-    let n = printing::print_wrong(out, t.used, t.number);
+    let n = scripts::print_wrong(out, t.used, t.number);
     let mut r = t;
-    r.size = 0;
     r.used = n;
     r.number = std::num::wrapping_add_u64(t.number, 1);
     r
@@ -80,6 +76,7 @@ fn answer_wrong(out: &mut [u8; 65536], t: Script) -> Script
 
 fn answer(
     line: &[u8; 131076],
+    size: usize,
     body: &mut [u8; 65537],
     list: &mut [u64; 4096],
     outbound: &mut [u8; 65536],
@@ -90,59 +87,38 @@ fn answer(
     requires { ⌜ t .used ≤ 65536 ⌝ }
     ensures { λ r. ⌜ r .used ≤ 65536 ⌝ }
 {
-    let l = reading::read_sized(line, t.size, body);
+    let l = reading::read_sized(line, size, body);
     match l {
         Line::Call(c) => answer_call(c, body, list, outbound, queue, out, t),
         Line::Wrong => answer_wrong(out, t),
     }
 }
 
-fn answer_chunk(
-    chunk: &[u8; 65536],
-    n: usize,
+// Answers the lines of standard input, and returns how much of the output buffer is used.
+fn answer_input(
+    message_number: u64,
+    chunk: &mut [u8; 65536],
     line: &mut [u8; 131076],
     body: &mut [u8; 65537],
     list: &mut [u64; 4096],
     outbound: &mut [u8; 65536],
     queue: &mut [u8; 32768],
     out: &mut [u8; 65536],
-    t: Script,
-) -> Script
-    requires { ⌜ t .used ≤ 65536 ⌝ }
-    ensures { λ r. ⌜ r .used ≤ 65536 ⌝ }
-{
-    let some = text::front(chunk, n);
-    let mut r = t;
-    let mut at = 0;
-    while at < some.len() {
-        let q = text::gather_line(some, at, line, r.size);
-        r.size = q.size;
-        if q.whole {
-            r = answer(line, body, list, outbound, queue, out, r);
-        }
-        at = q.next;
-    }
-    r
-}
-
-// A last line that has no end counts.
-fn answer_last(
-    line: &[u8; 131076],
-    body: &mut [u8; 65537],
-    list: &mut [u64; 4096],
-    outbound: &mut [u8; 65536],
-    queue: &mut [u8; 32768],
-    out: &mut [u8; 65536],
-    t: Script,
 ) -> usize
-    requires { ⌜ t .used ≤ 65536 ⌝ }
     ensures { λ r. ⌜ r ≤ 65536 ⌝ }
 {
-    if t.size == 0 {
-        return t.used;
+    let mut t = begin(message_number, outbound, queue);
+    let mut input = lines::no_input();
+    let mut turns = u64::MAX;
+    while turns > 0 {
+        input = lines::next_line(chunk, line, input);
+        if !input.found {
+            return t.used;
+        }
+        t = answer(line, input.size, body, list, outbound, queue, out, t);
+        turns -= 1;
     }
-    let r = answer(line, body, list, outbound, queue, out, t);
-    r.used
+    t.used
 }
 
 // Answers all of standard input, for a fresh session that starts at message_number.
@@ -154,34 +130,15 @@ pub fn run(message_number: u64) {
     let mut outbound = [0u8; 65536];
     let mut queue = [0u8; 32768];
     let mut out = io::large_buffer();
-    let mut t = begin(message_number, &mut outbound, &mut queue);
-    let mut turns = u64::MAX;
-    while turns > 0 {
-        let n = lines::read_some(&mut chunk);
-        if n == 0 {
-            break;
-        }
-        t = answer_chunk(
-            &chunk,
-            n,
-            &mut line,
-            &mut body,
-            &mut list,
-            &mut outbound,
-            &mut queue,
-            &mut out,
-            t,
-        );
-        turns -= 1;
-    }
-    let used = answer_last(
-        &line,
+    let used = answer_input(
+        message_number,
+        &mut chunk,
+        &mut line,
         &mut body,
         &mut list,
         &mut outbound,
         &mut queue,
         &mut out,
-        t,
     );
     lines::flush(&out, used);
 }

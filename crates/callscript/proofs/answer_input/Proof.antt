@@ -5,42 +5,42 @@ use Rattle.callscript.proofs.answer_input.Statement.{statement}
 use Rattle.callscript.proofs.answer_input.Tie as tie
 
 abbrev Inv-loop : tie.InvT-loop
-Inv-loop chunk₀ line₀ numbers₀ lengths₀ body₀ list₀ delivery₀ outbound₀ queue₀ out₀ t₀ turns₀ chunk line numbers lengths body list delivery outbound queue out t turns =
+Inv-loop chunk₀ line₀ numbers₀ lengths₀ body₀ list₀ delivery₀ outbound₀ queue₀ out₀ t₀ input₀ turns₀ chunk line numbers lengths body list delivery outbound queue out t input turns =
     t .used ≤ 65536
 
 abbrev μ-loop : tie.MeasureT-loop
-μ-loop chunk₀ line₀ numbers₀ lengths₀ body₀ list₀ delivery₀ outbound₀ queue₀ out₀ t₀ turns₀ chunk line numbers lengths body list delivery outbound queue out t turns =
+μ-loop chunk₀ line₀ numbers₀ lengths₀ body₀ list₀ delivery₀ outbound₀ queue₀ out₀ t₀ input₀ turns₀ chunk line numbers lengths body list delivery outbound queue out t input turns =
     turns
 
 begin-requires : tie.Need-begin-requires Inv-loop μ-loop
 begin-requires c κs = search needs
 
+no-input-requires : tie.Need-no-input-requires Inv-loop μ-loop
+no-input-requires c κs = search needs
+
 loop-holds : tie.Need-loop-holds Inv-loop μ-loop
 loop-holds c = search needs
 
-read-some-requires : tie.Need-read-some-requires Inv-loop μ-loop
-read-some-requires c κs = search needs
-
-front-requires : tie.Need-front-requires Inv-loop μ-loop
-front-requires c κs = search needs
-
-answer-chunk-requires : tie.Need-answer-chunk-requires Inv-loop μ-loop
-answer-chunk-requires c κs = c .before .before .before .before .before .before .before .before .before .before .before .before .before .before .before .before .loop .inv
-
-sub-turns : tie.Need-sub-turns Inv-loop μ-loop
-sub-turns c = omega (arith, c .before .before .before .before .before .before .before .before .before .before .before .before .before .before .before .before .loop-test .taken)
-
-loop-less : tie.Need-loop-less Inv-loop μ-loop
-loop-less c = omega (arith, c .before .before .before .before .before .before .before .before .before .before .before .before .before .before .before .before .loop-test .taken)
-
-loop-again : tie.Need-loop-again Inv-loop μ-loop
-loop-again c = c .answer-chunk .ensures
+next-line-requires : tie.Need-next-line-requires Inv-loop μ-loop
+next-line-requires c κs = search needs
 
 returns : tie.Need-returns Inv-loop μ-loop
-returns c = c .before .loop .inv
+returns c = search needs
+
+answer-requires : tie.Need-answer-requires Inv-loop μ-loop
+answer-requires c κs = c .before .before .before .before .before .before .before .before .before .before .before .before .before .before .before .loop .inv
+
+sub-turns : tie.Need-sub-turns Inv-loop μ-loop
+sub-turns c = omega (arith, c .before .before .before .before .before .before .before .before .before .before .before .before .before .before .before .loop-test .taken)
+
+loop-less : tie.Need-loop-less Inv-loop μ-loop
+loop-less c = omega (arith, c .before .before .before .before .before .before .before .before .before .before .before .before .before .before .before .loop-test .taken)
+
+loop-again : tie.Need-loop-again Inv-loop μ-loop
+loop-again c = search needs
 
 returns-2 : tie.Need-returns-2 Inv-loop μ-loop
-returns-2 c = c .before .before .before .before .loop .inv
+returns-2 c = search needs
 
 pub answer-input-spec : {M : Type 1} → statement M
 answer-input-spec =
@@ -49,12 +49,12 @@ answer-input-spec =
     Inv-loop
     μ-loop
     begin-requires
+    no-input-requires
     loop-holds
-    read-some-requires
-    front-requires
-    answer-chunk-requires
+    next-line-requires
+    returns
+    answer-requires
     sub-turns
     loop-less
     loop-again
-    returns
     returns-2)
