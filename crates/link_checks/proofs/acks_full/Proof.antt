@@ -17,31 +17,43 @@ add-if1 : tie.Need-add-if1
 add-if1 c = search needs
 
 returns : tie.Need-returns
-returns c = filled-few (c .before .before .before .args .number) (c .before .before .before .args .words .now) (c .before .before .before .pre) (c .if1 .taken)
+returns c =
+    let a : tie.Start = c .before .before .before in
+    filled-few (a .args .number) (a .args .words .now) (a .pre) (c .if1 .taken)
 
 has-requires : tie.Need-has-requires
-has-requires c κs = lies (c .before .before .before .args .number) (c .before .before .before .args .words .now) (c .before .before .before .pre)
+has-requires c κs =
+    let a : tie.Start = c .before .before .before in
+    lies (a .args .number) (a .args .words .now) (a .pre)
 
 returns-2 : tie.Need-returns-2
-returns-2 c = filled-waits (c .before .before .before .before .before .args .number) (c .before .before .before .before .before .args .words .now) (c .before .before .before .before .before .pre) (c .before .before .if1 .left) (c .before .has .ensures) (c .if2 .taken)
+returns-2 c =
+    let a : tie.Start = c .before .before .before .before .before in
+    filled-waits (a .args .number) (a .args .words .now) (a .pre) (c .before .before .if1 .left) (c .before .has .ensures) (c .if2 .taken)
 
 find-requires : tie.Need-find-requires
 find-requires c κs = c .before .before .before .before .before .pre .few
 
 returns-3 : tie.Need-returns-3
-returns-3 c = filled-queued (c .before .before .before .before .before .before .before .args .number) (c .before .before .before .before .before .before .before .args .words .now) (c .before .before .before .before .before .before .before .pre) (c .before .before .before .before .if1 .left) (c .before .before .before .has .ensures) (c .before .before .if2 .left) (c .before .find .ensures) (c .if3 .taken)
+returns-3 c =
+    let a : tie.Start = c .before .before .before .before .before .before .before in
+    filled-queued (a .args .number) (a .args .words .now) (a .pre) (c .before .before .before .before .if1 .left) (c .before .before .before .has .ensures) (c .before .before .if2 .left) (c .before .find .ensures) (c .if3 .taken)
 
 element-copy-out-if4 : tie.Need-element-copy-out-if4
 element-copy-out-if4 c = search needs
 
 returns-4 : tie.Need-returns-4
-returns-4 c = filled-new (c .before .before .before .before .before .before .before .before .before .args .number) (c .before .before .before .before .before .before .before .before .before .args .words .now) (c .before .before .before .before .before .before .before .before .before .pre) (c .before .before .before .before .before .before .if1 .left) (c .before .before .before .before .before .has .ensures) (c .before .before .before .before .if2 .left) (c .before .before .before .find .ensures) (c .before .before .if3 .left) (c .if4 .taken)
+returns-4 c =
+    let a : tie.Start = c .before .before .before .before .before .before .before .before .before in
+    filled-new (a .args .number) (a .args .words .now) (a .pre) (c .before .before .before .before .before .before .if1 .left) (c .before .before .before .before .before .has .ensures) (c .before .before .before .before .if2 .left) (c .before .before .before .find .ensures) (c .before .before .if3 .left) (c .if4 .taken)
 
 element-copy-out-result : tie.Need-element-copy-out-result
 element-copy-out-result c = search needs
 
 returns-5 : tie.Need-returns-5
-returns-5 c = filled-again (c .before .before .before .before .before .before .before .before .before .before .args .number) (c .before .before .before .before .before .before .before .before .before .before .args .words .now) (c .before .before .before .before .before .before .before .before .before .before .pre) (c .before .before .before .before .before .before .before .if1 .left) (c .before .before .before .before .before .before .has .ensures) (c .before .before .before .before .before .if2 .left) (c .before .before .before .before .find .ensures) (c .before .before .before .if3 .left) (c .before .if4 .left)
+returns-5 c =
+    let a : tie.Start = c .before .before .before .before .before .before .before .before .before .before in
+    filled-again (a .args .number) (a .args .words .now) (a .pre) (c .before .before .before .before .before .before .before .if1 .left) (c .before .before .before .before .before .before .has .ensures) (c .before .before .before .before .before .if2 .left) (c .before .before .before .before .find .ensures) (c .before .before .before .if3 .left) (c .before .if4 .left)
 
 pub acks-full-spec : {M : Type 1} → statement M
 acks-full-spec =

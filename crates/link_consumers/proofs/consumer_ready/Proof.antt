@@ -22,13 +22,19 @@ enum-told : tie.Need-enum-told
 enum-told c = search needs
 
 cast-ready : tie.Need-cast-ready
-cast-ready c = omega (arith, readying (c .before .before .before .before .before .before .before .before .before .before .before .before .before .before .before .before .before .before .args .status) (c .before .before .before .before .before .before .before .before .before .before .before .before .before .before .before .before .before .before .args .mode) (c .before .before .before .before .before .before .before .before .before .before .before .before .before .before .before .before .before .before .args .words .now) (c .before .before .before .before .before .before .before .before .before .before .before .before .before .before .before .before .before .before .args .halves .now) (c .before .before .before .before .before .before .before .before .before .before .before .before .before .before .before .before .before .before .args .bytes .now) (c .before .before .before .before .before .before .before .before .before .before .before .before .before .before .before .before .before .before .args .clock .now) (c .before .before .before .before .before .before .before .before .before .before .before .before .before .before .before .before .before .before .args .list .now) (c .before .before .before .before .before .before .before .before .before .before .before .before .before .before .before .before .before .before .args .delivery .now) (c .before .before .before .before .before .before .before .before .before .before .before .before .before .before .before .before .before .before .args .outbound .now) (c .before .before .before .before .before .before .before .before .before .before .before .before .before .before .before .before .before .before .args .queue .now) (c .before .before .before .before .before .before .before .before .before .before .enters .ensures) (c .before .before .before .before .before .before .before .before .enum-told .given .1) .known)
+cast-ready c =
+    let a : tie.Start = c .before .before .before .before .before .before .before .before .before .before .before .before .before .before .before .before .before .before in
+    omega (arith, readying (a .args .status) (a .args .mode) (a .args .words .now) (a .args .halves .now) (a .args .bytes .now) (a .args .clock .now) (a .args .list .now) (a .args .delivery .now) (a .args .outbound .now) (a .args .queue .now) (c .before .before .before .before .before .before .before .before .before .before .enters .ensures) (c .before .before .before .before .before .before .before .before .enum-told .given .1) .known)
 
 ready-requires : tie.Need-ready-requires
-ready-requires c κs = readying (c .before .before .before .before .before .before .before .before .before .before .before .before .before .before .before .before .before .before .args .status) (c .before .before .before .before .before .before .before .before .before .before .before .before .before .before .before .before .before .before .args .mode) (c .before .before .before .before .before .before .before .before .before .before .before .before .before .before .before .before .before .before .args .words .now) (c .before .before .before .before .before .before .before .before .before .before .before .before .before .before .before .before .before .before .args .halves .now) (c .before .before .before .before .before .before .before .before .before .before .before .before .before .before .before .before .before .before .args .bytes .now) (c .before .before .before .before .before .before .before .before .before .before .before .before .before .before .before .before .before .before .args .clock .now) (c .before .before .before .before .before .before .before .before .before .before .before .before .before .before .before .before .before .before .args .list .now) (c .before .before .before .before .before .before .before .before .before .before .before .before .before .before .before .before .before .before .args .delivery .now) (c .before .before .before .before .before .before .before .before .before .before .before .before .before .before .before .before .before .before .args .outbound .now) (c .before .before .before .before .before .before .before .before .before .before .before .before .before .before .before .before .before .before .args .queue .now) (c .before .before .before .before .before .before .before .before .before .before .enters .ensures) (c .before .before .before .before .before .before .before .before .enum-told .given .1)
+ready-requires c κs =
+    let a : tie.Start = c .before .before .before .before .before .before .before .before .before .before .before .before .before .before .before .before .before .before in
+    readying (a .args .status) (a .args .mode) (a .args .words .now) (a .args .halves .now) (a .args .bytes .now) (a .args .clock .now) (a .args .list .now) (a .args .delivery .now) (a .args .outbound .now) (a .args .queue .now) (c .before .before .before .before .before .before .before .before .before .before .enters .ensures) (c .before .before .before .before .before .before .before .before .enum-told .given .1)
 
 returns : tie.Need-returns
-returns c = stopped (c .before .before .before .before .before .before .before .before .before .before .before .before .args .status) (c .before .before .before .before .before .before .before .before .before .before .before .before .args .mode) (c .before .before .before .before .before .before .before .before .before .before .before .before .args .words .now) (c .before .before .before .before .before .before .before .before .before .before .before .before .args .halves .now) (c .before .before .before .before .before .before .before .before .before .before .before .before .args .bytes .now) (c .before .before .before .before .before .before .before .before .before .before .before .before .args .clock .now) (c .before .before .before .before .before .before .before .before .before .before .before .before .args .list .now) (c .before .before .before .before .before .before .before .before .before .before .before .before .args .delivery .now) (c .before .before .before .before .before .before .before .before .before .before .before .before .args .outbound .now) (c .before .before .before .before .before .before .before .before .before .before .before .before .args .queue .now) (c .before .before .before .before .enters .ensures) (c .before .before .stop .given .0 .0) (c .before .before .stop .given .1) (c .refusal .ensures)
+returns c =
+    let a : tie.Start = c .before .before .before .before .before .before .before .before .before .before .before .before in
+    stopped (a .args .status) (a .args .mode) (a .args .words .now) (a .args .halves .now) (a .args .bytes .now) (a .args .clock .now) (a .args .list .now) (a .args .delivery .now) (a .args .outbound .now) (a .args .queue .now) (c .before .before .before .before .enters .ensures) (c .before .before .stop .given .0 .0) (c .before .before .stop .given .1) (c .refusal .ensures)
 
 same-length : tie.Need-same-length
 same-length c = search needs

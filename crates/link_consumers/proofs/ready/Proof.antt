@@ -17,10 +17,14 @@ element-write-bytes : tie.Need-element-write-bytes
 element-write-bytes c = search needs
 
 turn-of-requires : tie.Need-turn-of-requires
-turn-of-requires c κs = codes (c .before .before .before .before .before .before .before .before .before .before .args .status) (c .before .before .before .before .before .before .before .before .before .before .args .mode) (c .before .before .before .before .before .before .before .before .before .before .args .words .now) (c .before .before .before .before .before .before .before .before .before .before .args .halves .now) (c .before .before .before .before .before .before .before .before .before .before .args .bytes .now) (c .before .before .before .before .before .before .before .before .before .before .args .clock .now) (c .before .before .before .before .before .before .before .before .before .before .pre) (omega (arith, c .before .before .before .before .full-bytes .ensures))
+turn-of-requires c κs =
+    let a : tie.Start = c .before .before .before .before .before .before .before .before .before .before in
+    codes (a .args .status) (a .args .mode) (a .args .words .now) (a .args .halves .now) (a .args .bytes .now) (a .args .clock .now) (a .pre) (omega (arith, c .before .before .before .before .full-bytes .ensures))
 
 carry-requires : tie.Need-carry-requires
-carry-requires c κs = carrying (c .before .before .before .before .before .before .before .before .before .before .before .before .before .before .before .before .before .before .before .args .status) (c .before .before .before .before .before .before .before .before .before .before .before .before .before .before .before .before .before .before .before .args .mode) (c .before .before .before .before .before .before .before .before .before .before .before .before .before .before .before .before .before .before .before .args .words .now) (c .before .before .before .before .before .before .before .before .before .before .before .before .before .before .before .before .before .before .before .args .halves .now) (c .before .before .before .before .before .before .before .before .before .before .before .before .before .before .before .before .before .before .before .args .bytes .now) (c .before .before .before .before .before .before .before .before .before .before .before .before .before .before .before .before .before .before .before .args .clock .now) (c .before .before .before .before .before .before .before .before .before .before .before .before .before .before .before .before .before .before .before .pre) (omega (arith, c .before .before .before .before .before .before .before .before .before .before .before .before .before .full-bytes .ensures)) (c .before .before .before .before .before .before .before .before .turn-of .ensures)
+carry-requires c κs =
+    let a : tie.Start = c .before .before .before .before .before .before .before .before .before .before .before .before .before .before .before .before .before .before .before in
+    carrying (a .args .status) (a .args .mode) (a .args .words .now) (a .args .halves .now) (a .args .bytes .now) (a .args .clock .now) (a .pre) (omega (arith, c .before .before .before .before .before .before .before .before .before .before .before .before .before .full-bytes .ensures)) (c .before .before .before .before .before .before .before .before .turn-of .ensures)
 
 plain-requires : tie.Need-plain-requires
 plain-requires c κs = search needs
@@ -38,7 +42,9 @@ same-length-4 : tie.Need-same-length-4
 same-length-4 c = search needs
 
 returns : tie.Need-returns
-returns c = done (c .before .before .before .before .before .before .before .before .before .before .before .before .before .before .before .before .before .before .before .before .before .before .before .before .before .before .before .before .before .args .status) (c .before .before .before .before .before .before .before .before .before .before .before .before .before .before .before .before .before .before .before .before .before .before .before .before .before .before .before .before .before .args .mode) (c .before .before .before .before .before .before .before .before .before .before .before .before .before .before .before .before .before .before .before .before .before .before .before .before .before .before .before .before .before .args .words .now) (c .before .before .before .before .before .before .before .before .before .before .before .before .before .before .before .before .before .before .before .before .before .before .before .before .before .before .before .before .before .args .halves .now) (c .before .before .before .before .before .before .before .before .before .before .before .before .before .before .before .before .before .before .before .before .before .before .before .before .before .before .before .before .before .args .bytes .now) (c .before .before .before .before .before .before .before .before .before .before .before .before .before .before .before .before .before .before .before .before .before .before .before .before .before .before .before .before .before .args .clock .now) (c .before .before .before .before .before .before .before .before .before .before .before .before .before .before .before .before .before .before .before .before .before .before .before .before .before .before .before .before .before .pre) (omega (arith, c .before .before .before .before .before .before .before .before .before .before .before .before .before .before .before .before .before .before .before .before .before .before .before .full-bytes .ensures)) (c .before .before .before .before .before .before .before .before .before .before .before .before .before .before .before .before .before .before .turn-of .ensures) _ (c .plain .ensures) (c .before .before .before .before .before .before .before .before .before .carry .ensures)
+returns c =
+    let a : tie.Start = c .before .before .before .before .before .before .before .before .before .before .before .before .before .before .before .before .before .before .before .before .before .before .before .before .before .before .before .before .before in
+    done (a .args .status) (a .args .mode) (a .args .words .now) (a .args .halves .now) (a .args .bytes .now) (a .args .clock .now) (a .pre) (omega (arith, c .before .before .before .before .before .before .before .before .before .before .before .before .before .before .before .before .before .before .before .before .before .before .before .full-bytes .ensures)) (c .before .before .before .before .before .before .before .before .before .before .before .before .before .before .before .before .before .before .turn-of .ensures) _ (c .plain .ensures) (c .before .before .before .before .before .before .before .before .before .carry .ensures)
 
 pub ready-spec : {M : Type 1} → statement M
 ready-spec =

@@ -23,13 +23,19 @@ enum-told : tie.Need-enum-told
 enum-told c = search needs
 
 cast-receive : tie.Need-cast-receive
-cast-receive c = omega (arith, arriving (c .before .before .before .before .before .before .before .before .before .before .before .before .before .before .before .before .before .before .before .args .status) (frameOf (c .before .before .before .before .before .before .before .before .before .before .before .before .before .before .before .before .before .before .before .args .number) (c .before .before .before .before .before .before .before .before .before .before .before .before .before .before .before .before .before .before .before .args .kind) (c .before .before .before .before .before .before .before .before .before .before .before .before .before .before .before .before .before .before .before .args .body .now)) (c .before .before .before .before .before .before .before .before .before .before .before .before .before .before .before .before .before .before .before .args .words .now) (c .before .before .before .before .before .before .before .before .before .before .before .before .before .before .before .before .before .before .before .args .halves .now) (c .before .before .before .before .before .before .before .before .before .before .before .before .before .before .before .before .before .before .before .args .bytes .now) (c .before .before .before .before .before .before .before .before .before .before .before .before .before .before .before .before .before .before .before .args .clock .now) (c .before .before .before .before .before .before .before .before .before .before .before .before .before .before .before .before .before .before .before .args .list .now) (c .before .before .before .before .before .before .before .before .before .before .before .before .before .before .before .before .before .before .before .args .delivery .now) (c .before .before .before .before .before .before .before .before .before .before .before .before .before .before .before .before .before .before .before .args .outbound .now) (c .before .before .before .before .before .before .before .before .before .before .before .before .before .before .before .before .before .before .before .args .queue .now) (c .before .before .before .before .before .before .before .before .before .before .enters .ensures) (c .before .before .before .before .before .before .before .before .enum-told .given .1) .kind)
+cast-receive c =
+    let a : tie.Start = c .before .before .before .before .before .before .before .before .before .before .before .before .before .before .before .before .before .before .before in
+    omega (arith, arriving (a .args .status) (frameOf (a .args .number) (a .args .kind) (a .args .body .now)) (a .args .words .now) (a .args .halves .now) (a .args .bytes .now) (a .args .clock .now) (a .args .list .now) (a .args .delivery .now) (a .args .outbound .now) (a .args .queue .now) (c .before .before .before .before .before .before .before .before .before .before .enters .ensures) (c .before .before .before .before .before .before .before .before .enum-told .given .1) .kind)
 
 receive-requires : tie.Need-receive-requires
-receive-requires c κs = arriving (c .before .before .before .before .before .before .before .before .before .before .before .before .before .before .before .before .before .before .before .args .status) (frameOf (c .before .before .before .before .before .before .before .before .before .before .before .before .before .before .before .before .before .before .before .args .number) (c .before .before .before .before .before .before .before .before .before .before .before .before .before .before .before .before .before .before .before .args .kind) (c .before .before .before .before .before .before .before .before .before .before .before .before .before .before .before .before .before .before .before .args .body .now)) (c .before .before .before .before .before .before .before .before .before .before .before .before .before .before .before .before .before .before .before .args .words .now) (c .before .before .before .before .before .before .before .before .before .before .before .before .before .before .before .before .before .before .before .args .halves .now) (c .before .before .before .before .before .before .before .before .before .before .before .before .before .before .before .before .before .before .before .args .bytes .now) (c .before .before .before .before .before .before .before .before .before .before .before .before .before .before .before .before .before .before .before .args .clock .now) (c .before .before .before .before .before .before .before .before .before .before .before .before .before .before .before .before .before .before .before .args .list .now) (c .before .before .before .before .before .before .before .before .before .before .before .before .before .before .before .before .before .before .before .args .delivery .now) (c .before .before .before .before .before .before .before .before .before .before .before .before .before .before .before .before .before .before .before .args .outbound .now) (c .before .before .before .before .before .before .before .before .before .before .before .before .before .before .before .before .before .before .before .args .queue .now) (c .before .before .before .before .before .before .before .before .before .before .enters .ensures) (c .before .before .before .before .before .before .before .before .enum-told .given .1)
+receive-requires c κs =
+    let a : tie.Start = c .before .before .before .before .before .before .before .before .before .before .before .before .before .before .before .before .before .before .before in
+    arriving (a .args .status) (frameOf (a .args .number) (a .args .kind) (a .args .body .now)) (a .args .words .now) (a .args .halves .now) (a .args .bytes .now) (a .args .clock .now) (a .args .list .now) (a .args .delivery .now) (a .args .outbound .now) (a .args .queue .now) (c .before .before .before .before .before .before .before .before .before .before .enters .ensures) (c .before .before .before .before .before .before .before .before .enum-told .given .1)
 
 returns : tie.Need-returns
-returns c = stopped (c .before .before .before .before .before .before .before .before .before .before .before .before .before .args .status) (frameOf (c .before .before .before .before .before .before .before .before .before .before .before .before .before .args .number) (c .before .before .before .before .before .before .before .before .before .before .before .before .before .args .kind) (c .before .before .before .before .before .before .before .before .before .before .before .before .before .args .body .now)) (c .before .before .before .before .before .before .before .before .before .before .before .before .before .args .words .now) (c .before .before .before .before .before .before .before .before .before .before .before .before .before .args .halves .now) (c .before .before .before .before .before .before .before .before .before .before .before .before .before .args .bytes .now) (c .before .before .before .before .before .before .before .before .before .before .before .before .before .args .clock .now) (c .before .before .before .before .before .before .before .before .before .before .before .before .before .args .list .now) (c .before .before .before .before .before .before .before .before .before .before .before .before .before .args .delivery .now) (c .before .before .before .before .before .before .before .before .before .before .before .before .before .args .outbound .now) (c .before .before .before .before .before .before .before .before .before .before .before .before .before .args .queue .now) (c .before .before .before .before .enters .ensures) (c .before .before .stop .given .0 .0) (c .before .before .stop .given .1) (c .refusal .ensures)
+returns c =
+    let a : tie.Start = c .before .before .before .before .before .before .before .before .before .before .before .before .before in
+    stopped (a .args .status) (frameOf (a .args .number) (a .args .kind) (a .args .body .now)) (a .args .words .now) (a .args .halves .now) (a .args .bytes .now) (a .args .clock .now) (a .args .list .now) (a .args .delivery .now) (a .args .outbound .now) (a .args .queue .now) (c .before .before .before .before .enters .ensures) (c .before .before .stop .given .0 .0) (c .before .before .stop .given .1) (c .refusal .ensures)
 
 same-length : tie.Need-same-length
 same-length c = search needs

@@ -7,7 +7,9 @@ use Rattle.link_receiving.proofs.receive.Reads as reads
 use Rattle.link_receiving.proofs.receive.Lts as lts
 
 check-requires : tie.Need-check-requires
-check-requires c κs = countable (c .before .before .before .before .before .before .args .status) (frameOf (c .before .before .before .before .before .before .args .number) (c .before .before .before .before .before .before .args .kind) (c .before .before .before .before .before .before .args .body .now)) (c .before .before .before .before .before .before .args .words .now) (c .before .before .before .before .before .before .args .halves .now) (c .before .before .before .before .before .before .args .bytes .now) (c .before .before .before .before .before .before .args .clock .now) (c .before .before .before .before .before .before .args .list .now) (c .before .before .before .before .before .before .args .delivery .now) (c .before .before .before .before .before .before .args .outbound .now) (c .before .before .before .before .before .before .args .queue .now) (c .before .before .before .before .before .before .pre)
+check-requires c κs =
+    let a : tie.Start = c .before .before .before .before .before .before in
+    countable (a .args .status) (frameOf (a .args .number) (a .args .kind) (a .args .body .now)) (a .args .words .now) (a .args .halves .now) (a .args .bytes .now) (a .args .clock .now) (a .args .list .now) (a .args .delivery .now) (a .args .outbound .now) (a .args .queue .now) (a .pre)
 
 enum-known-verdict : tie.Need-enum-known-verdict
 enum-known-verdict c = search needs
@@ -19,7 +21,9 @@ enum-known-verdict-2 : tie.Need-enum-known-verdict-2
 enum-known-verdict-2 c = search needs
 
 fail-requires : tie.Need-fail-requires
-fail-requires c κs = may-fail (c .before .before .before .before .before .before .before .before .before .before .before .before .before .before .before .before .args .status) (frameOf (c .before .before .before .before .before .before .before .before .before .before .before .before .before .before .before .before .args .number) (c .before .before .before .before .before .before .before .before .before .before .before .before .before .before .before .before .args .kind) (c .before .before .before .before .before .before .before .before .before .before .before .before .before .before .before .before .args .body .now)) (c .before .before .before .before .before .before .before .before .before .before .before .before .before .before .before .before .args .words .now) (c .before .before .before .before .before .before .before .before .before .before .before .before .before .before .before .before .args .halves .now) (c .before .before .before .before .before .before .before .before .before .before .before .before .before .before .before .before .args .bytes .now) (c .before .before .before .before .before .before .before .before .before .before .before .before .before .before .before .before .args .clock .now) (c .before .before .before .before .before .before .before .before .before .before .before .before .before .before .before .before .args .list .now) (c .before .before .before .before .before .before .before .before .before .before .before .before .before .before .before .before .args .delivery .now) (c .before .before .before .before .before .before .before .before .before .before .before .before .before .before .before .before .args .outbound .now) (c .before .before .before .before .before .before .before .before .before .before .before .before .before .before .before .before .args .queue .now) (c .before .before .before .before .before .before .before .before .before .before .before .before .before .before .before .before .pre)
+fail-requires c κs =
+    let a : tie.Start = c .before .before .before .before .before .before .before .before .before .before .before .before .before .before .before .before in
+    may-fail (a .args .status) (frameOf (a .args .number) (a .args .kind) (a .args .body .now)) (a .args .words .now) (a .args .halves .now) (a .args .bytes .now) (a .args .clock .now) (a .args .list .now) (a .args .delivery .now) (a .args .outbound .now) (a .args .queue .now) (a .pre)
 
 answered-requires : tie.Need-answered-requires
 answered-requires c κs = search needs
@@ -28,7 +32,9 @@ enum-told : tie.Need-enum-told
 enum-told c = search needs
 
 receive-again-requires : tie.Need-receive-again-requires
-receive-again-requires c κs = may-acknowledge (c .before .before .before .before .before .before .before .before .before .before .before .before .before .before .args .status) (frameOf (c .before .before .before .before .before .before .before .before .before .before .before .before .before .before .args .number) (c .before .before .before .before .before .before .before .before .before .before .before .before .before .before .args .kind) (c .before .before .before .before .before .before .before .before .before .before .before .before .before .before .args .body .now)) (c .before .before .before .before .before .before .before .before .before .before .before .before .before .before .args .words .now) (c .before .before .before .before .before .before .before .before .before .before .before .before .before .before .args .halves .now) (c .before .before .before .before .before .before .before .before .before .before .before .before .before .before .args .bytes .now) (c .before .before .before .before .before .before .before .before .before .before .before .before .before .before .args .clock .now) (c .before .before .before .before .before .before .before .before .before .before .before .before .before .before .args .list .now) (c .before .before .before .before .before .before .before .before .before .before .before .before .before .before .args .delivery .now) (c .before .before .before .before .before .before .before .before .before .before .before .before .before .before .args .outbound .now) (c .before .before .before .before .before .before .before .before .before .before .before .before .before .before .args .queue .now) (c .before .before .before .before .before .before .before .before .before .before .before .before .before .before .pre) (c .before .before .before .before .before .before .before .check .ensures) (c .before .before .before .before .before .enum-told .given .1)
+receive-again-requires c κs =
+    let a : tie.Start = c .before .before .before .before .before .before .before .before .before .before .before .before .before .before in
+    may-acknowledge (a .args .status) (frameOf (a .args .number) (a .args .kind) (a .args .body .now)) (a .args .words .now) (a .args .halves .now) (a .args .bytes .now) (a .args .clock .now) (a .args .list .now) (a .args .delivery .now) (a .args .outbound .now) (a .args .queue .now) (a .pre) (c .before .before .before .before .before .before .before .check .ensures) (c .before .before .before .before .before .enum-told .given .1)
 
 answered-requires-2 : tie.Need-answered-requires-2
 answered-requires-2 c κs = search needs
@@ -37,13 +43,17 @@ enum-told-2 : tie.Need-enum-told-2
 enum-told-2 c = search needs
 
 receive-new-requires : tie.Need-receive-new-requires
-receive-new-requires c κs = may-receive (c .before .before .before .before .before .before .before .before .before .before .before .before .before .before .before .before .before .args .status) (frameOf (c .before .before .before .before .before .before .before .before .before .before .before .before .before .before .before .before .before .args .number) (c .before .before .before .before .before .before .before .before .before .before .before .before .before .before .before .before .before .args .kind) (c .before .before .before .before .before .before .before .before .before .before .before .before .before .before .before .before .before .args .body .now)) (c .before .before .before .before .before .before .before .before .before .before .before .before .before .before .before .before .before .args .words .now) (c .before .before .before .before .before .before .before .before .before .before .before .before .before .before .before .before .before .args .halves .now) (c .before .before .before .before .before .before .before .before .before .before .before .before .before .before .before .before .before .args .bytes .now) (c .before .before .before .before .before .before .before .before .before .before .before .before .before .before .before .before .before .args .clock .now) (c .before .before .before .before .before .before .before .before .before .before .before .before .before .before .before .before .before .args .list .now) (c .before .before .before .before .before .before .before .before .before .before .before .before .before .before .before .before .before .args .delivery .now) (c .before .before .before .before .before .before .before .before .before .before .before .before .before .before .before .before .before .args .outbound .now) (c .before .before .before .before .before .before .before .before .before .before .before .before .before .before .before .before .before .args .queue .now) (c .before .before .before .before .before .before .before .before .before .before .before .before .before .before .before .before .before .pre) (c .before .before .before .before .before .before .before .before .before .before .check .ensures) (c .before .before .before .before .before .before .before .before .enum-told2 .given .1)
+receive-new-requires c κs =
+    let a : tie.Start = c .before .before .before .before .before .before .before .before .before .before .before .before .before .before .before .before .before in
+    may-receive (a .args .status) (frameOf (a .args .number) (a .args .kind) (a .args .body .now)) (a .args .words .now) (a .args .halves .now) (a .args .bytes .now) (a .args .clock .now) (a .args .list .now) (a .args .delivery .now) (a .args .outbound .now) (a .args .queue .now) (a .pre) (c .before .before .before .before .before .before .before .before .before .before .check .ensures) (c .before .before .before .before .before .before .before .before .enum-told2 .given .1)
 
 answered-requires-3 : tie.Need-answered-requires-3
 answered-requires-3 c κs = search needs
 
 returns : tie.Need-returns
-returns c = refused (c .before .before .before .before .before .before .before .before .before .before .before .args .status) (frameOf (c .before .before .before .before .before .before .before .before .before .before .before .args .number) (c .before .before .before .before .before .before .before .before .before .before .before .args .kind) (c .before .before .before .before .before .before .before .before .before .before .before .args .body .now)) (c .before .before .before .before .before .before .before .before .before .before .before .args .words .now) (c .before .before .before .before .before .before .before .before .before .before .before .args .halves .now) (c .before .before .before .before .before .before .before .before .before .before .before .args .bytes .now) (c .before .before .before .before .before .before .before .before .before .before .before .args .clock .now) (c .before .before .before .before .before .before .before .before .before .before .before .args .list .now) (c .before .before .before .before .before .before .before .before .before .before .before .args .delivery .now) (c .before .before .before .before .before .before .before .before .before .before .before .args .outbound .now) (c .before .before .before .before .before .before .before .before .before .before .before .args .queue .now) (c .before .before .before .before .before .before .before .before .before .before .before .pre) (c .before .before .before .before .check .ensures) (c .before .before .verdict .given .0 .0) (c .before .before .verdict .given .1) (c .refusal .ensures)
+returns c =
+    let a : tie.Start = c .before .before .before .before .before .before .before .before .before .before .before in
+    refused (a .args .status) (frameOf (a .args .number) (a .args .kind) (a .args .body .now)) (a .args .words .now) (a .args .halves .now) (a .args .bytes .now) (a .args .clock .now) (a .args .list .now) (a .args .delivery .now) (a .args .outbound .now) (a .args .queue .now) (a .pre) (c .before .before .before .before .check .ensures) (c .before .before .verdict .given .0 .0) (c .before .before .verdict .given .1) (c .refusal .ensures)
 
 same-length : tie.Need-same-length
 same-length c = search needs
@@ -52,13 +62,17 @@ same-length-2 : tie.Need-same-length-2
 same-length-2 c = search needs
 
 returns-2 : tie.Need-returns-2
-returns-2 c = failed (c .before .before .before .before .before .before .before .before .before .before .before .before .before .before .before .before .before .before .before .before .before .before .args .status) (frameOf (c .before .before .before .before .before .before .before .before .before .before .before .before .before .before .before .before .before .before .before .before .before .before .args .number) (c .before .before .before .before .before .before .before .before .before .before .before .before .before .before .before .before .before .before .before .before .before .before .args .kind) (c .before .before .before .before .before .before .before .before .before .before .before .before .before .before .before .before .before .before .before .before .before .before .args .body .now)) (c .before .before .before .before .before .before .before .before .before .before .before .before .before .before .before .before .before .before .before .before .before .before .args .words .now) (c .before .before .before .before .before .before .before .before .before .before .before .before .before .before .before .before .before .before .before .before .before .before .args .halves .now) (c .before .before .before .before .before .before .before .before .before .before .before .before .before .before .before .before .before .before .before .before .before .before .args .bytes .now) (c .before .before .before .before .before .before .before .before .before .before .before .before .before .before .before .before .before .before .before .before .before .before .args .clock .now) (c .before .before .before .before .before .before .before .before .before .before .before .before .before .before .before .before .before .before .before .before .before .before .args .list .now) (c .before .before .before .before .before .before .before .before .before .before .before .before .before .before .before .before .before .before .before .before .before .before .args .delivery .now) (c .before .before .before .before .before .before .before .before .before .before .before .before .before .before .before .before .before .before .before .before .before .before .args .outbound .now) (c .before .before .before .before .before .before .before .before .before .before .before .before .before .before .before .before .before .before .before .before .before .before .args .queue .now) (c .before .before .before .before .before .before .before .before .before .before .before .before .before .before .before .before .before .before .before .before .before .before .pre) (c .before .before .before .before .before .before .before .before .before .before .before .before .before .before .before .check .ensures) _ (c .answered .ensures) (c .before .before .before .before .before .before .before .before .before .before .before .before .before .verdict2 .given .0 .0) (c .before .before .before .before .before .before .before .before .before .before .before .before .before .verdict2 .given .1) (c .before .before .before .before .before .fail .ensures)
+returns-2 c =
+    let a : tie.Start = c .before .before .before .before .before .before .before .before .before .before .before .before .before .before .before .before .before .before .before .before .before .before in
+    failed (a .args .status) (frameOf (a .args .number) (a .args .kind) (a .args .body .now)) (a .args .words .now) (a .args .halves .now) (a .args .bytes .now) (a .args .clock .now) (a .args .list .now) (a .args .delivery .now) (a .args .outbound .now) (a .args .queue .now) (a .pre) (c .before .before .before .before .before .before .before .before .before .before .before .before .before .before .before .check .ensures) _ (c .answered .ensures) (c .before .before .before .before .before .before .before .before .before .before .before .before .before .verdict2 .given .0 .0) (c .before .before .before .before .before .before .before .before .before .before .before .before .before .verdict2 .given .1) (c .before .before .before .before .before .fail .ensures)
 
 same-length-3 : tie.Need-same-length-3
 same-length-3 c = search needs
 
 returns-3 : tie.Need-returns-3
-returns-3 c = acknowledged (c .before .before .before .before .before .before .before .before .before .before .before .before .before .before .before .before .before .before .args .status) (frameOf (c .before .before .before .before .before .before .before .before .before .before .before .before .before .before .before .before .before .before .args .number) (c .before .before .before .before .before .before .before .before .before .before .before .before .before .before .before .before .before .before .args .kind) (c .before .before .before .before .before .before .before .before .before .before .before .before .before .before .before .before .before .before .args .body .now)) (c .before .before .before .before .before .before .before .before .before .before .before .before .before .before .before .before .before .before .args .words .now) (c .before .before .before .before .before .before .before .before .before .before .before .before .before .before .before .before .before .before .args .halves .now) (c .before .before .before .before .before .before .before .before .before .before .before .before .before .before .before .before .before .before .args .bytes .now) (c .before .before .before .before .before .before .before .before .before .before .before .before .before .before .before .before .before .before .args .clock .now) (c .before .before .before .before .before .before .before .before .before .before .before .before .before .before .before .before .before .before .args .list .now) (c .before .before .before .before .before .before .before .before .before .before .before .before .before .before .before .before .before .before .args .delivery .now) (c .before .before .before .before .before .before .before .before .before .before .before .before .before .before .before .before .before .before .args .outbound .now) (c .before .before .before .before .before .before .before .before .before .before .before .before .before .before .before .before .before .before .args .queue .now) (c .before .before .before .before .before .before .before .before .before .before .before .before .before .before .before .before .before .before .pre) (c .before .before .before .before .before .before .before .before .before .before .before .check .ensures) _ (c .answered2 .ensures) (c .before .before .before .before .before .before .before .before .before .enum-told .given .1) (c .before .before .before .receive-again .ensures)
+returns-3 c =
+    let a : tie.Start = c .before .before .before .before .before .before .before .before .before .before .before .before .before .before .before .before .before .before in
+    acknowledged (a .args .status) (frameOf (a .args .number) (a .args .kind) (a .args .body .now)) (a .args .words .now) (a .args .halves .now) (a .args .bytes .now) (a .args .clock .now) (a .args .list .now) (a .args .delivery .now) (a .args .outbound .now) (a .args .queue .now) (a .pre) (c .before .before .before .before .before .before .before .before .before .before .before .check .ensures) _ (c .answered2 .ensures) (c .before .before .before .before .before .before .before .before .before .enum-told .given .1) (c .before .before .before .receive-again .ensures)
 
 same-length-4 : tie.Need-same-length-4
 same-length-4 c = search needs
@@ -73,7 +87,9 @@ same-length-7 : tie.Need-same-length-7
 same-length-7 c = search needs
 
 returns-4 : tie.Need-returns-4
-returns-4 c = received (c .before .before .before .before .before .before .before .before .before .before .before .before .before .before .before .before .before .before .before .before .before .before .before .before .before .before .before .args .status) (frameOf (c .before .before .before .before .before .before .before .before .before .before .before .before .before .before .before .before .before .before .before .before .before .before .before .before .before .before .before .args .number) (c .before .before .before .before .before .before .before .before .before .before .before .before .before .before .before .before .before .before .before .before .before .before .before .before .before .before .before .args .kind) (c .before .before .before .before .before .before .before .before .before .before .before .before .before .before .before .before .before .before .before .before .before .before .before .before .before .before .before .args .body .now)) (c .before .before .before .before .before .before .before .before .before .before .before .before .before .before .before .before .before .before .before .before .before .before .before .before .before .before .before .args .words .now) (c .before .before .before .before .before .before .before .before .before .before .before .before .before .before .before .before .before .before .before .before .before .before .before .before .before .before .before .args .halves .now) (c .before .before .before .before .before .before .before .before .before .before .before .before .before .before .before .before .before .before .before .before .before .before .before .before .before .before .before .args .bytes .now) (c .before .before .before .before .before .before .before .before .before .before .before .before .before .before .before .before .before .before .before .before .before .before .before .before .before .before .before .args .clock .now) (c .before .before .before .before .before .before .before .before .before .before .before .before .before .before .before .before .before .before .before .before .before .before .before .before .before .before .before .args .list .now) (c .before .before .before .before .before .before .before .before .before .before .before .before .before .before .before .before .before .before .before .before .before .before .before .before .before .before .before .args .delivery .now) (c .before .before .before .before .before .before .before .before .before .before .before .before .before .before .before .before .before .before .before .before .before .before .before .before .before .before .before .args .outbound .now) (c .before .before .before .before .before .before .before .before .before .before .before .before .before .before .before .before .before .before .before .before .before .before .before .before .before .before .before .args .queue .now) (c .before .before .before .before .before .before .before .before .before .before .before .before .before .before .before .before .before .before .before .before .before .before .before .before .before .before .before .pre) (c .before .before .before .before .before .before .before .before .before .before .before .before .before .before .before .before .before .before .before .before .check .ensures) _ (c .answered3 .ensures) (c .before .before .before .before .before .before .before .before .before .before .before .before .before .before .before .before .before .before .enum-told2 .given .1) (c .before .before .before .before .before .before .before .before .before .receive-new .ensures)
+returns-4 c =
+    let a : tie.Start = c .before .before .before .before .before .before .before .before .before .before .before .before .before .before .before .before .before .before .before .before .before .before .before .before .before .before .before in
+    received (a .args .status) (frameOf (a .args .number) (a .args .kind) (a .args .body .now)) (a .args .words .now) (a .args .halves .now) (a .args .bytes .now) (a .args .clock .now) (a .args .list .now) (a .args .delivery .now) (a .args .outbound .now) (a .args .queue .now) (a .pre) (c .before .before .before .before .before .before .before .before .before .before .before .before .before .before .before .before .before .before .before .before .check .ensures) _ (c .answered3 .ensures) (c .before .before .before .before .before .before .before .before .before .before .before .before .before .before .before .before .before .before .enum-told2 .given .1) (c .before .before .before .before .before .before .before .before .before .receive-new .ensures)
 
 pub receive-spec : {M : Type 1} → statement M
 receive-spec =

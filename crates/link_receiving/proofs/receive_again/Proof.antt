@@ -34,10 +34,14 @@ same-length : tie.Need-same-length
 same-length c = search needs
 
 returns : tie.Need-returns
-returns c = answers (c .before .before .before .before .before .before .before .before .before .before .before .before .before .before .before .args .number) (c .before .before .before .before .before .before .before .before .before .before .before .before .before .before .before .args .words .now) (c .before .before .before .before .before .before .before .before .before .before .before .before .before .before .before .args .halves .now) (c .before .before .before .before .before .before .before .before .before .before .before .before .before .before .before .args .bytes .now) (c .before .before .before .before .before .before .before .before .before .before .before .before .before .before .before .args .clock .now) (c .before .before .before .before .before .before .before .before .before .before .before .before .before .before .before .args .list .now) (c .before .before .before .before .before .before .before .before .before .before .clock-in .ensures) (c .before .before .before .before .before .before .before .before .if1 .taken) (c .before .before .before .before .before .before .emit .ensures) (c .before .before .request .ensures)
+returns c =
+    let a : tie.Start = c .before .before .before .before .before .before .before .before .before .before .before .before .before .before .before in
+    answers (a .args .number) (a .args .words .now) (a .args .halves .now) (a .args .bytes .now) (a .args .clock .now) (a .args .list .now) (c .before .before .before .before .before .before .before .before .before .before .clock-in .ensures) (c .before .before .before .before .before .before .before .before .if1 .taken) (c .before .before .before .before .before .before .emit .ensures) (c .before .before .request .ensures)
 
 put-requires : tie.Need-put-requires
-put-requires c κs = (c .before .before .before .before .before .before .before .before .pre .1, fits (c .before .before .before .before .before .before .before .before .args .number) (c .before .before .before .before .before .before .before .before .args .words .now) (c .before .before .before .before .before .before .before .before .args .halves .now) (c .before .before .before .before .before .before .before .before .args .bytes .now) (c .before .before .before .before .before .before .before .before .args .clock .now) (c .before .before .before .before .before .before .before .before .args .list .now) (c .before .before .before .before .before .before .before .before .pre .0) (c .before .if1 .left))
+put-requires c κs =
+    let a : tie.Start = c .before .before .before .before .before .before .before .before in
+    (a .pre .1, fits (a .args .number) (a .args .words .now) (a .args .halves .now) (a .args .bytes .now) (a .args .clock .now) (a .args .list .now) (a .pre .0) (c .before .if1 .left))
 
 request-requires-2 : tie.Need-request-requires-2
 request-requires-2 c κs = omega (arith, c .before .before .before .before .before .before .before .before .before .before .pre .0 .list)
@@ -46,7 +50,9 @@ same-length-2 : tie.Need-same-length-2
 same-length-2 c = search needs
 
 returns-2 : tie.Need-returns-2
-returns-2 c = waits (c .before .before .before .before .before .before .before .before .before .before .before .before .before .args .number) (c .before .before .before .before .before .before .before .before .before .before .before .before .before .args .words .now) (c .before .before .before .before .before .before .before .before .before .before .before .before .before .args .halves .now) (c .before .before .before .before .before .before .before .before .before .before .before .before .before .args .bytes .now) (c .before .before .before .before .before .before .before .before .before .before .before .before .before .args .clock .now) (c .before .before .before .before .before .before .before .before .before .before .before .before .before .args .list .now) (omega (arith, c .before .before .before .before .before .before .before .before .before .before .full-words .ensures)) (omega (arith, c .before .before .before .before .before .before .before .before .before .full-bytes .ensures)) (c .before .before .before .before .put .ensures) (c .before .before .before .before .before .before .before .before .clock-in .ensures) (c .before .before .before .before .before .before .if1 .left) (c .before .before .request2 .ensures)
+returns-2 c =
+    let a : tie.Start = c .before .before .before .before .before .before .before .before .before .before .before .before .before in
+    waits (a .args .number) (a .args .words .now) (a .args .halves .now) (a .args .bytes .now) (a .args .clock .now) (a .args .list .now) (omega (arith, c .before .before .before .before .before .before .before .before .before .before .full-words .ensures)) (omega (arith, c .before .before .before .before .before .before .before .before .before .full-bytes .ensures)) (c .before .before .before .before .put .ensures) (c .before .before .before .before .before .before .before .before .clock-in .ensures) (c .before .before .before .before .before .before .if1 .left) (c .before .before .request2 .ensures)
 
 pub receive-again-spec : {M : Type 1} → statement M
 receive-again-spec =

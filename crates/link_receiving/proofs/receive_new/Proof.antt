@@ -11,13 +11,19 @@ use Rattle.link_draining.proofs.turn_of.Reads as turn-of-reads
 use Rattle.receiving.proofs.delivers.Reads as delivers-reads
 
 turn-of-requires : tie.Need-turn-of-requires
-turn-of-requires c κs = codes (c .before .before .before .before .before .before .before .before .before .args .words .now) (c .before .before .before .before .before .before .before .before .before .args .halves .now) (c .before .before .before .before .before .before .before .before .before .args .bytes .now) (c .before .before .before .before .before .before .before .before .before .args .clock .now) (c .before .before .before .before .before .before .before .before .before .pre)
+turn-of-requires c κs =
+    let a : tie.Start = c .before .before .before .before .before .before .before .before .before in
+    codes (a .args .words .now) (a .args .halves .now) (a .args .bytes .now) (a .args .clock .now) (a .pre)
 
 delivers-requires : tie.Need-delivers-requires
-delivers-requires c κs = above (c .before .before .before .before .before .before .before .before .before .before .args .words .now) (c .before .before .before .before .before .before .before .before .before .before .args .halves .now) (c .before .before .before .before .before .before .before .before .before .before .args .bytes .now) (c .before .before .before .before .before .before .before .before .before .before .args .clock .now) (c .before .before .before .before .before .before .before .before .before .before .pre) (c .turn-of .ensures)
+delivers-requires c κs =
+    let a : tie.Start = c .before .before .before .before .before .before .before .before .before .before in
+    above (a .args .words .now) (a .args .halves .now) (a .args .bytes .now) (a .args .clock .now) (a .pre) (c .turn-of .ensures)
 
 take-now-requires : tie.Need-take-now-requires
-take-now-requires c κs = choosing (c .before .before .before .before .before .before .before .before .before .before .before .before .before .before .before .before .before .before .before .before .args .words .now) (c .before .before .before .before .before .before .before .before .before .before .before .before .before .before .before .before .before .before .before .before .args .halves .now) (c .before .before .before .before .before .before .before .before .before .before .before .before .before .before .before .before .before .before .before .before .args .bytes .now) (c .before .before .before .before .before .before .before .before .before .before .before .before .before .before .before .before .before .before .before .before .args .clock .now) (c .before .before .before .before .before .before .before .before .before .before .before .before .before .before .before .before .before .before .before .before .pre) (c .before .before .before .before .before .before .before .before .before .before .turn-of .ensures) true (c .before .before .before .before .before .before .before .before .before .before .before .before .before .before .before .before .before .before .before .before .args .status) (c .before .before .before .before .before .before .before .before .before .delivers .ensures) (c .before .before .before .before .before .before .before .before .if1 .taken)
+take-now-requires c κs =
+    let a : tie.Start = c .before .before .before .before .before .before .before .before .before .before .before .before .before .before .before .before .before .before .before .before in
+    choosing (a .args .words .now) (a .args .halves .now) (a .args .bytes .now) (a .args .clock .now) (a .pre) (c .before .before .before .before .before .before .before .before .before .before .turn-of .ensures) true (a .args .status) (c .before .before .before .before .before .before .before .before .before .delivers .ensures) (c .before .before .before .before .before .before .before .before .if1 .taken)
 
 same-length : tie.Need-same-length
 same-length c = search needs
@@ -35,7 +41,9 @@ returns : tie.Need-returns
 returns c = c .before .before .before .before .before .before .before .before .take-now .ensures
 
 enqueue-requires : tie.Need-enqueue-requires
-enqueue-requires c κs = choosing (c .before .before .before .before .before .before .before .before .before .before .before .before .before .before .before .before .before .before .before .before .args .words .now) (c .before .before .before .before .before .before .before .before .before .before .before .before .before .before .before .before .before .before .before .before .args .halves .now) (c .before .before .before .before .before .before .before .before .before .before .before .before .before .before .before .before .before .before .before .before .args .bytes .now) (c .before .before .before .before .before .before .before .before .before .before .before .before .before .before .before .before .before .before .before .before .args .clock .now) (c .before .before .before .before .before .before .before .before .before .before .before .before .before .before .before .before .before .before .before .before .pre) (c .before .before .before .before .before .before .before .before .before .before .turn-of .ensures) false (c .before .before .before .before .before .before .before .before .before .before .before .before .before .before .before .before .before .before .before .before .args .status) (c .before .before .before .before .before .before .before .before .before .delivers .ensures) (c .before .before .before .before .before .before .before .before .if1 .left)
+enqueue-requires c κs =
+    let a : tie.Start = c .before .before .before .before .before .before .before .before .before .before .before .before .before .before .before .before .before .before .before .before in
+    choosing (a .args .words .now) (a .args .halves .now) (a .args .bytes .now) (a .args .clock .now) (a .pre) (c .before .before .before .before .before .before .before .before .before .before .turn-of .ensures) false (a .args .status) (c .before .before .before .before .before .before .before .before .before .delivers .ensures) (c .before .before .before .before .before .before .before .before .if1 .left)
 
 same-length-5 : tie.Need-same-length-5
 same-length-5 c = search needs
