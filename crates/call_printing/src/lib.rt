@@ -117,7 +117,15 @@ fn print_event(
     ensures { λ r. ⌜ r ≤ 65536 ⌝ }
 {
     let n = scripts::print_words(out, used, list, at);
-    let m = print_pointed(out, n, list[at], list[at + 2], list[at + 3], delivery, outbound);
+    let m = print_pointed(
+        out,
+        n,
+        list[at],
+        list[at + 2],
+        list[at + 3],
+        delivery,
+        outbound,
+    );
     lines::print_byte(out, m, 10)
 }
 

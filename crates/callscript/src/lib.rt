@@ -1,9 +1,9 @@
 // The call script: reads the calls of document 01 from the lines of standard input, makes them on one session, and prints what each answers.
 ghost use Prim.Native.Nat.{_≤_};
-use peer_session::SessionState;
 use call_reading::Call;
 use call_reading::Line;
 use call_reading::Opening;
+use peer_session::SessionState;
 use rules::Answer;
 
 // The session, whether there is one, the number of the line, and how much of the output buffer is used.

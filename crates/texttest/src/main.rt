@@ -1,7 +1,6 @@
 // Prints what it reads of each line: `d NUMBER`, `x HEX16`, `h HEX`, `p NUMBER HEX`, and for any other line `? ` and its number from 1.
 ghost use Prim.Native.Nat.{_≤_, _<_};
 use text::Filled;
-use text::Piece;
 use text::Taken;
 
 // What a line says; a body lies in the buffer for it.
@@ -13,9 +12,8 @@ enum Line {
     Wrong,
 }
 
-// The size of the line so far, the number of the next line, and how much of the output buffer is used.
+// The number of the next line, and how much of the output buffer is used.
 struct Place {
-    size: usize,
     number: u64,
     used: usize,
 }
@@ -140,73 +138,46 @@ fn read_sized(line: &[u8], size: usize, body: &mut [u8]) -> Line {
     read_line(text::front(line, size), body)
 }
 
-fn answer(line: &[u8; 1000], body: &mut [u8; 300], out: &mut [u8; 65536], p: Place) -> Place
+fn answer(
+    line: &[u8; 1000],
+    size: usize,
+    body: &mut [u8; 300],
+    out: &mut [u8; 65536],
+    p: Place,
+) -> Place
     requires { ⌜ p .used ≤ 65536 ⌝ }
     ensures { λ r. ⌜ r .used ≤ 65536 ⌝ }
 {
-    let l = read_sized(line, p.size, body);
+    let l = read_sized(line, size, body);
     let n = print_line(l, p.number, body, out, p.used);
     let m = lines::print_byte(out, n, 10);
     Place {
-        size: 0,
         number: std::num::wrapping_add_u64(p.number, 1),
         used: m,
     }
 }
 
-fn after_piece(
-    q: Piece,
-    line: &[u8; 1000],
-    body: &mut [u8; 300],
-    out: &mut [u8; 65536],
-    p: Place,
-) -> Place
-    requires { ⌜ p .used ≤ 65536 ⌝ }
-    ensures { λ r. ⌜ r .used ≤ 65536 ⌝ }
-{
-    let t = Place {
-        size: q.size,
-        number: p.number,
-        used: p.used,
-    };
-    if q.whole {
-        return answer(line, body, out, t);
-    }
-    t
-}
-
-fn answer_chunk(
-    chunk: &[u8; 65536],
-    n: usize,
+// Answers the lines of standard input, and returns how much of the output buffer is used.
+fn answer_input(
+    chunk: &mut [u8; 65536],
     line: &mut [u8; 1000],
     body: &mut [u8; 300],
     out: &mut [u8; 65536],
-    p: Place,
-) -> Place
-    requires { ⌜ p .used ≤ 65536 ⌝ }
-    ensures { λ r. ⌜ r .used ≤ 65536 ⌝ }
-{
-    let some = text::front(chunk, n);
-    let mut t = p;
-    let mut at = 0;
-    while at < some.len() {
-        let q = text::gather_line(some, at, line, t.size);
-        t = after_piece(q, line, body, out, t);
-        at = q.next;
-    }
-    t
-}
-
-// A last line that has no end counts.
-fn answer_last(line: &[u8; 1000], body: &mut [u8; 300], out: &mut [u8; 65536], p: Place) -> usize
-    requires { ⌜ p .used ≤ 65536 ⌝ }
+) -> usize
     ensures { λ r. ⌜ r ≤ 65536 ⌝ }
 {
-    if p.size == 0 {
-        return p.used;
+    let mut p = Place { number: 1, used: 0 };
+    let mut input = lines::no_input();
+    let mut turns = u64::MAX;
+    while turns > 0 {
+        input = lines::next_line(chunk, line, input);
+        if !input.found {
+            return p.used;
+        }
+        p = answer(line, input.size, body, out, p);
+        turns -= 1;
     }
-    let t = answer(line, body, out, p);
-    t.used
+    p.used
 }
 
 fn main() {
@@ -214,20 +185,6 @@ fn main() {
     let mut out = io::large_buffer();
     let mut line = [0u8; 1000];
     let mut body = [0u8; 300];
-    let mut p = Place {
-        size: 0,
-        number: 1,
-        used: 0,
-    };
-    let mut turns = u64::MAX;
-    while turns > 0 {
-        let n = lines::read_some(&mut chunk);
-        if n == 0 {
-            break;
-        }
-        p = answer_chunk(&chunk, n, &mut line, &mut body, &mut out, p);
-        turns -= 1;
-    }
-    let used = answer_last(&line, &mut body, &mut out, p);
+    let used = answer_input(&mut chunk, &mut line, &mut body, &mut out);
     lines::flush(&out, used);
 }
