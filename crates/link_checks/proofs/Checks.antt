@@ -4,7 +4,6 @@ use mathlib.Core.Bool.{Bool, true, false}
 use mathlib.Core.List.{List}
 use Prim.Native.Nat.{ℕ, _+_, _-_, _≤_, _<_}
 use native.Mathlib.Omega.{arith}
-use lib.ListN.{length}
 use lib.Dec.{ltb}
 use Rattle.rules.specs.declared.Refusal.the-variants.{BodyTooLong, GapTooWide, LastNumber, AcksFull}
 use Rattle.rules.specs.Lists.{Bytes, has, any}

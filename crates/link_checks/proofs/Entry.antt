@@ -15,8 +15,8 @@ use Rattle.peer_session.specs.View.{stateOf}
 use Rattle.session.proofs.Entry.{entered}
 use Rattle.draining.specs.Arrived.{Arrived}
 use Rattle.draining.proofs.Calls as Calls
-use Rattle.parts.specs.Parts.{Parts, parts, at, openedOf}
-use Rattle.link_checks.specs.Entry.{Passing, Stopped, Found, Enters}
+use Rattle.parts.specs.Parts.{parts, at, openedOf}
+use Rattle.link_checks.specs.Entry.{Passing, Found, Enters}
 
 module _ (w h b : List ℕ) (wrong : Bool) (nl nd nu nq : ℕ) where
   pub list-short : nl < 4096 → Enters w h b wrong nl nd nu nq (By ShortBuffer)

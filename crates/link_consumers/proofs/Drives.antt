@@ -1,8 +1,8 @@
 -- Consumer ready, driven. Assumes nothing.
-use mathlib.Core.Path.{_≡_, refl, sym, ap, _∙_, subst}
-use mathlib.Core.Bool.{Bool, true, false}
+use mathlib.Core.Path.{_≡_, refl, sym}
+use mathlib.Core.Bool.{true, false}
 use mathlib.Core.List.{List}
-use Prim.Native.Nat.{ℕ, _≤_, _<_}
+use Prim.Native.Nat.{ℕ, _≤_}
 use lib.Dec.{ltb}
 use lib.Ieee.{Float}
 use lib.ListN.{length, set}
@@ -11,7 +11,6 @@ use Rattle.rules.specs.declared.HostStatus.{HostStatus}
 use Rattle.rules.specs.declared.Refusal.{Refusal}
 use Rattle.rules.specs.declared.Answer.the-variants.{Done, Refused}
 use Rattle.rules.specs.Lists.{Bytes}
-use Rattle.rules.specs.Receiving.{mode-of}
 use Rattle.rules.specs.Calls.{is-ready}
 use Rattle.rules.specs.Buffers.{wrong-code}
 use Rattle.events.specs.declared.Stop.{Stop}

@@ -1,6 +1,6 @@
 -- The session that the parts are with another mode. Assumes nothing.
 use mathlib.Core.Path.{_≡_, refl, sym, ap, _∙_}
-use mathlib.Core.Bool.{Bool, true, false, _&&_}
+use mathlib.Core.Bool.{true}
 use mathlib.Core.List.{List}
 use Prim.Native.Nat.{ℕ, _≤_, _<_}
 use native.Mathlib.Omega.{arith}
@@ -13,10 +13,9 @@ use Rattle.stores.proofs.Chains.{two}
 use Rattle.rules.proofs.Lists.{and-both}
 use Rattle.rules.specs.Receiving.{mode-of}
 use Rattle.peer_session.specs.declared.Stage.{Stage}
-use Rattle.peer_session.specs.declared.SessionState.{SessionState}
 use Rattle.consumers.specs.Modes.{with-mode}
 use Rattle.parts.specs.declared.StageCodes.{StageCodes}
-use Rattle.parts.specs.Codes.{plain-terms, good-codes, stageOf}
+use Rattle.parts.specs.Codes.{good-codes, stageOf}
 use Rattle.parts.specs.Parts.{parts, at, flag, codesIn, openedOf}
 use Rattle.parts.proofs.Fields.{Agree, agree-set, outbox-same, queue-same, handoff-same, reject-same}
 use Rattle.parts.proofs.Opened.{opened-as}

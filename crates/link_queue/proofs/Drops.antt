@@ -9,7 +9,6 @@ use Rattle.stores.specs.Placed.{placed}
 use Rattle.stores.proofs.Laws.{placed-none}
 use Rattle.rules.specs.Lists.{Bytes}
 use Rattle.rules.specs.State as R
-use Rattle.queue.specs.declared.Queued.{Queued}
 use Rattle.queue.specs.declared.Queue.{Queue}
 use Rattle.queue.specs.View.{recordQ, usedQ, framesOf, endQ, ExactQueue}
 use Rattle.queue.proofs.View.{repacked-as}

@@ -1,6 +1,5 @@
 -- A frame that goes to its place, of a queue in place. Assumes nothing.
 use mathlib.Core.Path.{_≡_, refl, sym, ap, _∙_, subst}
-use mathlib.Core.Bool.{false}
 use mathlib.Core.List.{List, [], _∷_, _++_, map}
 use Prim.Native.Nat.{ℕ, zero, suc, _+_, _-_, _≤_, _<_}
 use native.Mathlib.Omega.{arith}
@@ -9,12 +8,12 @@ use lib.ListN.{length, take, drop, set, length-set}
 use lib.Seq.{getD-set-same, getD-set-other, take-all}
 use Rattle.stores.specs.Placed.{placed}
 use Rattle.stores.proofs.Packs.{map-append, map-take, map-drop}
-use Rattle.rules.specs.Lists.{Bytes, any, put}
+use Rattle.rules.specs.Lists.{Bytes, put}
 use Rattle.rules.specs.State as R
-use Rattle.rules.specs.State.{frame-number, is-frame}
+use Rattle.rules.specs.State.{frame-number}
 use Rattle.queue.specs.declared.Queued.{Queued}
 use Rattle.queue.specs.declared.Queue.{Queue}
-use Rattle.queue.specs.View.{recordQ, usedQ, endQ, framesOf, ExactQueue}
+use Rattle.queue.specs.View.{recordQ, usedQ, endQ, framesOf}
 use Rattle.queue.specs.Steps.{arrived, Leads, Room, Enters, with-at}
 use Rattle.queue.proofs.View.{frames-length, frames-records, repacked-as, put-is}
 use Rattle.queue.proofs.Changes.{inserted, none-left}

@@ -1,8 +1,8 @@
 -- Data in any mode, driven. Assumes nothing.
-use mathlib.Core.Path.{_≡_, refl, sym, _∙_, subst}
+use mathlib.Core.Path.{_≡_, refl, sym}
 use mathlib.Core.Bool.{Bool, true, false}
 use mathlib.Core.List.{List}
-use Prim.Native.Nat.{ℕ, _+_, _*_, _≤_, _<_}
+use Prim.Native.Nat.{ℕ, _≤_, _<_}
 use lib.Ieee.{Float}
 use lib.ListN.{length}
 use lib.Dec.{ltb}
@@ -16,9 +16,7 @@ use Rattle.rules.specs.Calls.{gets-data}
 use Rattle.rules.specs.Buffers.{wrong-code}
 use Rattle.events.specs.declared.Stop.{Stop}
 use Rattle.events.specs.declared.Stop.the-variants.{No, By}
-use Rattle.peer_session.specs.declared.SessionState.{SessionState}
 use Rattle.peer_session.specs.Sound as Sounds
-use Rattle.session.specs.declared.Returned.{Returned}
 use Rattle.session.specs.Promise.{lent, Called}
 use Rattle.delivery.specs.declared.Turn.{Turn}
 use Rattle.draining.specs.Arrived.{told}
@@ -32,7 +30,7 @@ use Rattle.receiving.proofs.Data.{data-takes, check-fits, fail-fits, refused-by
 use Rattle.receiving.proofs.Next.{new-above, taking}
 use Rattle.parts.specs.declared.LinkAnswer.{LinkAnswer}
 use Rattle.parts.specs.Codes.{good-codes, answerOf}
-use Rattle.parts.specs.Parts.{Parts, parts, at, codesIn, openedOf}
+use Rattle.parts.specs.Parts.{Parts, parts, codesIn, openedOf}
 use Rattle.parts.specs.Driven.{Driven}
 use Rattle.parts.proofs.Drives.{refuses, changes}
 use Rattle.link_numbers.specs.Sets.{Rising}

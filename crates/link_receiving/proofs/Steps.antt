@@ -1,11 +1,11 @@
 -- The steps of data in place, from those of the driver's call. Assumes nothing.
-use mathlib.Core.Path.{_≡_, refl, sym, ap, _∙_, subst}
+use mathlib.Core.Path.{_≡_, sym, ap, _∙_, subst}
 use mathlib.Core.Bool.{Bool, true, false}
 use mathlib.Core.List.{List, [], _∷_}
 use Prim.Native.Nat.{ℕ, _+_, _*_, _≤_, _<_}
 use native.Mathlib.Omega.{arith}
 use lib.Ieee.{Float}
-use lib.ListN.{length, drop}
+use lib.ListN.{length}
 use Rattle.stores.specs.Placed.{placed}
 use Rattle.rules.specs.declared.Clock.{Clock}
 use Rattle.rules.specs.declared.HostStatus.{HostStatus}
@@ -22,12 +22,11 @@ use Rattle.parts.specs.Codes.{good-codes, handed, answerOf}
 use Rattle.link_draining.specs.declared.Ending.{Ending}
 use Rattle.events.specs.Written.{Listed, asked, books}
 use Rattle.numbers.specs.declared.Numbers.{Numbers}
-use Rattle.numbers.specs.Seats.{inUse, ExactNumbers, Holds}
-use Rattle.queue.specs.declared.Queue.{Queue}
+use Rattle.numbers.specs.Seats.{inUse, ExactNumbers}
 use Rattle.queue.specs.View.{endQ, framesOf, ExactQueue}
 use Rattle.queue.specs.Steps.{Leads}
 use Rattle.peer_session.specs.declared.SessionState.{SessionState}
-use Rattle.peer_session.specs.View.{stateOf, Exact}
+use Rattle.peer_session.specs.View.{Exact}
 use Rattle.delivery.specs.declared.Turn.{Turn}
 use Rattle.delivery.specs.declared.Step.{Step}
 use Rattle.delivery.specs.Turns.{Delivered}

@@ -2,10 +2,6 @@ use Rattle.link_checks.proofs.Checks.{lies, filled-few, filled-waits, f
 use borrow.Author.Needs.{needs}
 use Rattle.link_checks.proofs.acks_full.Statement.{statement}
 use Rattle.link_checks.proofs.acks_full.Tie as tie
-use Rattle.link_checks.proofs.acks_full.Reads as reads
-use Rattle.link_checks.proofs.acks_full.Lts as lts
-use Rattle.link_queue.proofs.find.Reads as find-reads
-use Rattle.link_numbers.proofs.has.Reads as has-reads
 
 element-copy-out-waiting : tie.Need-element-copy-out-waiting
 element-copy-out-waiting c = search needs

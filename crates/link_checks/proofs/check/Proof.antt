@@ -2,9 +2,6 @@ use Rattle.link_checks.proofs.Checks.{judged-long, judged-far, judged-l
 use borrow.Author.Needs.{needs}
 use Rattle.link_checks.proofs.check.Statement.{statement}
 use Rattle.link_checks.proofs.check.Tie as tie
-use Rattle.link_checks.proofs.check.Reads as reads
-use Rattle.link_checks.proofs.check.Lts as lts
-use Rattle.link_checks.proofs.acks_full.Reads as acks-full-reads
 
 element-copy-out-if1 : tie.Need-element-copy-out-if1
 element-copy-out-if1 c = search needs

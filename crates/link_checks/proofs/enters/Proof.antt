@@ -3,9 +3,6 @@ use Rattle.link_checks.proofs.Entry.{list-short, delivery-short, outbou
 use borrow.Author.Needs.{needs}
 use Rattle.link_checks.proofs.enters.Statement.{statement}
 use Rattle.link_checks.proofs.enters.Tie as tie
-use Rattle.link_checks.proofs.enters.Reads as reads
-use Rattle.link_checks.proofs.enters.Lts as lts
-use Rattle.link_sound.proofs.sound.Reads as sound-reads
 
 returns : tie.Need-returns
 returns c =

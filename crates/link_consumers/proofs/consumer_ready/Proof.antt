@@ -3,11 +3,6 @@ use Rattle.link_consumers.proofs.Drives.{stopped, readying}
 use borrow.Author.Needs.{needs}
 use Rattle.link_consumers.proofs.consumer_ready.Statement.{statement}
 use Rattle.link_consumers.proofs.consumer_ready.Tie as tie
-use Rattle.link_consumers.proofs.consumer_ready.Reads as reads
-use Rattle.link_consumers.proofs.consumer_ready.Lts as lts
-use Rattle.link_checks.proofs.enters.Reads as enters-reads
-use Rattle.link_codes.proofs.refusal.Reads as refusal-reads
-use Rattle.link_consumers.proofs.ready.Reads as ready-reads
 
 enters-requires : tie.Need-enters-requires
 enters-requires c κs = search needs

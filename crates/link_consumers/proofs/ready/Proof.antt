@@ -3,12 +3,6 @@ use Rattle.link_consumers.proofs.Drives.{codes, carrying, done}
 use borrow.Author.Needs.{needs}
 use Rattle.link_consumers.proofs.ready.Statement.{statement}
 use Rattle.link_consumers.proofs.ready.Tie as tie
-use Rattle.link_consumers.proofs.ready.Reads as reads
-use Rattle.link_consumers.proofs.ready.Lts as lts
-use Rattle.link_codes.proofs.plain.Reads as plain-reads
-use Rattle.link_draining.proofs.carry.Reads as carry-reads
-use Rattle.link_draining.proofs.turn_of.Reads as turn-of-reads
-use Rattle.parts.proofs.full_bytes.Reads as full-bytes-reads
 
 full-bytes-requires : tie.Need-full-bytes-requires
 full-bytes-requires c κs = search needs

@@ -3,8 +3,6 @@ use Rattle.link_queue.proofs.Tops.{below-none, below-top}
 use borrow.Author.Needs.{needs}
 use Rattle.link_queue.proofs.above.Statement.{statement}
 use Rattle.link_queue.proofs.above.Tie as tie
-use Rattle.link_queue.proofs.above.Reads as reads
-use Rattle.link_queue.proofs.above.Lts as lts
 
 element-copy-out-n : tie.Need-element-copy-out-n
 element-copy-out-n c = search needs

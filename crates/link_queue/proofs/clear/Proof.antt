@@ -5,11 +5,6 @@ use Rattle.link_queue.proofs.Drops.{cleared}
 use borrow.Author.Needs.{needs}
 use Rattle.link_queue.proofs.clear.Statement.{statement}
 use Rattle.link_queue.proofs.clear.Tie as tie
-use Rattle.link_queue.proofs.clear.Reads as reads
-use Rattle.link_queue.proofs.clear.Lts as lts
-use Rattle.link_queue.proofs.start.Reads as start-reads
-use Rattle.parts.proofs.full_words.Reads as full-words-reads
-use Rattle.stores.proofs.clear.Reads as clear-reads
 
 full-words-requires : tie.Need-full-words-requires
 full-words-requires c κs = search needs

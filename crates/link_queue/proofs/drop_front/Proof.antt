@@ -2,11 +2,6 @@ use Rattle.link_queue.proofs.Drops.{dropped-none, cleared-front}
 use borrow.Author.Needs.{needs}
 use Rattle.link_queue.proofs.drop_front.Statement.{statement}
 use Rattle.link_queue.proofs.drop_front.Tie as tie
-use Rattle.link_queue.proofs.drop_front.Reads as reads
-use Rattle.link_queue.proofs.drop_front.Lts as lts
-use Rattle.link_queue.proofs.clear.Reads as clear-reads
-use Rattle.link_queue.proofs.shed.Reads as shed-reads
-use Rattle.parts.proofs.full_words.Reads as full-words-reads
 
 full-words-requires : tie.Need-full-words-requires
 full-words-requires c κs = search needs

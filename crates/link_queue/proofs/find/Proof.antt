@@ -1,4 +1,4 @@
-use Prim.Native.Nat.{ℕ, _+_, _-_, _≤_, _<_}
+use Prim.Native.Nat.{_-_, _≤_}
 use mathlib.Core.Path.{_≡_, refl}
 use native.Mathlib.Omega.{arith}
 use Rattle.parts.specs.Parts.{at}
@@ -6,9 +6,6 @@ use Rattle.link_queue.proofs.Finds.{Counted, counted-none, counted-more
 use borrow.Author.Needs.{needs}
 use Rattle.link_queue.proofs.find.Statement.{statement}
 use Rattle.link_queue.proofs.find.Tie as tie
-use Rattle.link_queue.proofs.find.Reads as reads
-use Rattle.link_queue.proofs.find.Lts as lts
-use Rattle.link_queue.proofs.same_of.Reads as same-of-reads
 
 abbrev Inv-loop : tie.InvT-loop
 Inv-loop words number count sum₀ i₀ sum i = (count ≡ at words 4) × (at words 4 ≤ 256) × (i ≤ count) × Counted number words i sum

@@ -1,11 +1,6 @@
 use Rattle.link_queue.proofs.Tops.{not-queued}
-use borrow.Author.Needs.{needs}
 use Rattle.link_queue.proofs.holds.Statement.{statement}
 use Rattle.link_queue.proofs.holds.Tie as tie
-use Rattle.link_queue.proofs.holds.Reads as reads
-use Rattle.link_queue.proofs.holds.Lts as lts
-use Rattle.link_queue.proofs.above.Reads as above-reads
-use Rattle.link_queue.proofs.find.Reads as find-reads
 
 above-requires : tie.Need-above-requires
 above-requires c κs = c .pre

@@ -4,15 +4,6 @@ use mathlib.Core.Path.{refl}
 use borrow.Author.Needs.{needs}
 use Rattle.link_queue.proofs.insert.Statement.{statement}
 use Rattle.link_queue.proofs.insert.Tie as tie
-use Rattle.link_queue.proofs.insert.Reads as reads
-use Rattle.link_queue.proofs.insert.Lts as lts
-use Rattle.link_queue.proofs.above.Reads as above-reads
-use Rattle.link_queue.proofs.insert_at.Reads as insert-at-reads
-use Rattle.link_queue.proofs.join.Reads as join-reads
-use Rattle.link_queue.proofs.up_to.Reads as up-to-reads
-use Rattle.parts.proofs.full_bytes.Reads as full-bytes-reads
-use Rattle.parts.proofs.full_halves.Reads as full-halves-reads
-use Rattle.parts.proofs.full_words.Reads as full-words-reads
 
 full-words-requires : tie.Need-full-words-requires
 full-words-requires c κs = search needs

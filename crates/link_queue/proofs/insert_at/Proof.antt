@@ -7,17 +7,6 @@ use Rattle.link_queue.proofs.Inserts.{put-in}
 use borrow.Author.Needs.{needs}
 use Rattle.link_queue.proofs.insert_at.Statement.{statement}
 use Rattle.link_queue.proofs.insert_at.Tie as tie
-use Rattle.link_queue.proofs.insert_at.Reads as reads
-use Rattle.link_queue.proofs.insert_at.Lts as lts
-use Rattle.link_moves.proofs.raise_bytes.Reads as raise-bytes-reads
-use Rattle.link_moves.proofs.raise_halves.Reads as raise-halves-reads
-use Rattle.link_moves.proofs.raise_words.Reads as raise-words-reads
-use Rattle.link_queue.proofs.raise_bodies.Reads as raise-bodies-reads
-use Rattle.link_queue.proofs.start.Reads as start-reads
-use Rattle.parts.proofs.full_bytes.Reads as full-bytes-reads
-use Rattle.parts.proofs.full_halves.Reads as full-halves-reads
-use Rattle.parts.proofs.full_words.Reads as full-words-reads
-use Rattle.stores.proofs.copy_in.Reads as copy-in-reads
 
 within : (c : tie.After-start2) → c .before .before .start .result ≤ c .start2 .result
 within c =

@@ -2,9 +2,6 @@ use Rattle.link_queue.proofs.Joins.{is-joined}
 use borrow.Author.Needs.{needs}
 use Rattle.link_queue.proofs.join.Statement.{statement}
 use Rattle.link_queue.proofs.join.Tie as tie
-use Rattle.link_queue.proofs.join.Reads as reads
-use Rattle.link_queue.proofs.join.Lts as lts
-use Rattle.stores.proofs.copy_in.Reads as copy-in-reads
 
 copy-in-requires : tie.Need-copy-in-requires
 copy-in-requires c κs = search needs

@@ -1,4 +1,4 @@
-use mathlib.Core.Path.{_≡_, refl, ap, _∙_}
+use mathlib.Core.Path.{ap, _∙_}
 use mathlib.Core.List.{List}
 use Prim.Native.Nat.{ℕ, _-_}
 use lib.ListN.{replicate}
@@ -7,10 +7,6 @@ use Rattle.link_queue.proofs.Bodies.{stay-low}
 use borrow.Author.Needs.{needs}
 use Rattle.link_queue.proofs.lower_bodies.Statement.{statement}
 use Rattle.link_queue.proofs.lower_bodies.Tie as tie
-use Rattle.link_queue.proofs.lower_bodies.Reads as reads
-use Rattle.link_queue.proofs.lower_bodies.Lts as lts
-use Rattle.stores.proofs.clear.Reads as clear-reads
-use Rattle.stores.proofs.move_down.Reads as move-down-reads
 
 returns : tie.Need-returns
 returns c =

@@ -3,9 +3,6 @@ use Rattle.link_queue.proofs.Bodies.{stay-high}
 use borrow.Author.Needs.{needs}
 use Rattle.link_queue.proofs.raise_bodies.Statement.{statement}
 use Rattle.link_queue.proofs.raise_bodies.Tie as tie
-use Rattle.link_queue.proofs.raise_bodies.Reads as reads
-use Rattle.link_queue.proofs.raise_bodies.Lts as lts
-use Rattle.stores.proofs.move_up.Reads as move-up-reads
 
 returns : tie.Need-returns
 returns c =

@@ -4,11 +4,8 @@ use native.Mathlib.Omega.{arith}
 use Prim.Native.Nat.{ℕ}
 use borrow.Author.Tests.{eq-eqb, ne-eqb}
 use Rattle.rules.specs.Lists.{if_then_else_}
-use borrow.Author.Needs.{needs}
 use Rattle.link_queue.proofs.same_of.Statement.{statement}
 use Rattle.link_queue.proofs.same_of.Tie as tie
-use Rattle.link_queue.proofs.same_of.Reads as reads
-use Rattle.link_queue.proofs.same_of.Lts as lts
 
 returns : tie.Need-returns
 returns c = (sym (ap {B = ℕ} (λ (t : Bool). if t then 1 else 0) (eq-eqb _ _ (c .if1 .taken))), omega arith)

@@ -1,5 +1,5 @@
-use Prim.Native.Nat.{_≤_, _+_, _-_}
-use lib.ListN.{length, take, drop}
+use Prim.Native.Nat.{_-_}
+use lib.ListN.{take, drop}
 use native.Mathlib.Omega.{arith}
 use mathlib.Core.Path.{refl}
 use Rattle.stores.specs.Placed.{placed}
@@ -9,14 +9,6 @@ use Rattle.link_queue.proofs.Drops.{dropped-some}
 use borrow.Author.Needs.{needs}
 use Rattle.link_queue.proofs.shed.Statement.{statement}
 use Rattle.link_queue.proofs.shed.Tie as tie
-use Rattle.link_queue.proofs.shed.Reads as reads
-use Rattle.link_queue.proofs.shed.Lts as lts
-use Rattle.link_moves.proofs.lower_bytes.Reads as lower-bytes-reads
-use Rattle.link_moves.proofs.lower_halves.Reads as lower-halves-reads
-use Rattle.link_moves.proofs.lower_words.Reads as lower-words-reads
-use Rattle.link_queue.proofs.lower_bodies.Reads as lower-bodies-reads
-use Rattle.link_queue.proofs.start.Reads as start-reads
-use Rattle.parts.proofs.full_words.Reads as full-words-reads
 
 full-words-requires : tie.Need-full-words-requires
 full-words-requires c κs = search needs

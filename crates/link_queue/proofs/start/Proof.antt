@@ -7,8 +7,6 @@ use Rattle.link_queue.proofs.Sums.{bodies-none, bodies-more, bodies-sma
 use borrow.Author.Needs.{needs}
 use Rattle.link_queue.proofs.start.Statement.{statement}
 use Rattle.link_queue.proofs.start.Tie as tie
-use Rattle.link_queue.proofs.start.Reads as reads
-use Rattle.link_queue.proofs.start.Lts as lts
 
 abbrev Inv-loop : tie.InvT-loop
 Inv-loop halves k sum₀ i₀ sum i = Summing halves k × (i ≤ k) × (sum ≡ bodies halves i)

@@ -7,8 +7,6 @@ use Rattle.link_queue.proofs.Finds.{leads-some, leads-all}
 use borrow.Author.Needs.{needs}
 use Rattle.link_queue.proofs.up_to.Statement.{statement}
 use Rattle.link_queue.proofs.up_to.Tie as tie
-use Rattle.link_queue.proofs.up_to.Reads as reads
-use Rattle.link_queue.proofs.up_to.Lts as lts
 
 abbrev Inv-loop : tie.InvT-loop
 Inv-loop words number count i₀ i = (count ≡ at words 4) × (at words 4 ≤ 256) × (i ≤ count) × ((j : ℕ) → j < i → at words (16 + j) ≤ number)

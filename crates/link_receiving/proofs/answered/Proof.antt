@@ -1,12 +1,7 @@
-use Rattle.events.specs.declared.Stop.the-variants.{No, By}
 use Rattle.link_receiving.proofs.Steps.{answered-no, answered-by}
 use borrow.Author.Needs.{needs}
 use Rattle.link_receiving.proofs.answered.Statement.{statement}
 use Rattle.link_receiving.proofs.answered.Tie as tie
-use Rattle.link_receiving.proofs.answered.Reads as reads
-use Rattle.link_receiving.proofs.answered.Lts as lts
-use Rattle.link_codes.proofs.answer_of.Reads as answer-of-reads
-use Rattle.link_codes.proofs.plain.Reads as plain-reads
 
 enum-told : tie.Need-enum-told
 enum-told c = search needs

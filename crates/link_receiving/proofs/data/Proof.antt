@@ -4,11 +4,6 @@ use Rattle.link_receiving.proofs.Drives.{stopped, arriving}
 use borrow.Author.Needs.{needs}
 use Rattle.link_receiving.proofs.data.Statement.{statement}
 use Rattle.link_receiving.proofs.data.Tie as tie
-use Rattle.link_receiving.proofs.data.Reads as reads
-use Rattle.link_receiving.proofs.data.Lts as lts
-use Rattle.link_checks.proofs.enters.Reads as enters-reads
-use Rattle.link_receiving.proofs.receive.Reads as receive-reads
-use Rattle.link_codes.proofs.refusal.Reads as refusal-reads
 
 enters-requires : tie.Need-enters-requires
 enters-requires c κs = search needs

@@ -1,20 +1,8 @@
-use mathlib.Core.Path.{_∙_}
 use native.Mathlib.Omega.{arith}
 use Rattle.link_receiving.proofs.Steps.{few-later, topped-later, listed-later, sums, body-short, may-fail, carrying-kept, queued-already, too-many, too-long, may-insert, carrying-joined, joined}
 use borrow.Author.Needs.{needs}
 use Rattle.link_receiving.proofs.enqueue.Statement.{statement}
 use Rattle.link_receiving.proofs.enqueue.Tie as tie
-use Rattle.link_receiving.proofs.enqueue.Reads as reads
-use Rattle.link_receiving.proofs.enqueue.Lts as lts
-use Rattle.events.proofs.request.Reads as request-reads
-use Rattle.link_codes.proofs.clock_in.Reads as clock-in-reads
-use Rattle.link_draining.proofs.carry.Reads as carry-reads
-use Rattle.link_draining.proofs.fail.Reads as fail-reads
-use Rattle.link_queue.proofs.holds.Reads as holds-reads
-use Rattle.link_queue.proofs.insert.Reads as insert-reads
-use Rattle.link_queue.proofs.start.Reads as start-reads
-use Rattle.parts.proofs.full_bytes.Reads as full-bytes-reads
-use Rattle.parts.proofs.full_words.Reads as full-words-reads
 
 full-words-requires : tie.Need-full-words-requires
 full-words-requires c κs = search needs

@@ -3,8 +3,6 @@ use Rattle.link_receiving.proofs.Drives.{countable, may-fail, refused, 
 use borrow.Author.Needs.{needs}
 use Rattle.link_receiving.proofs.receive.Statement.{statement}
 use Rattle.link_receiving.proofs.receive.Tie as tie
-use Rattle.link_receiving.proofs.receive.Reads as reads
-use Rattle.link_receiving.proofs.receive.Lts as lts
 
 check-requires : tie.Need-check-requires
 check-requires c κs =

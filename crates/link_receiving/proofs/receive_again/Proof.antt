@@ -3,14 +3,6 @@ use Rattle.link_receiving.proofs.Steps.{answers, waits, fits}
 use borrow.Author.Needs.{needs}
 use Rattle.link_receiving.proofs.receive_again.Statement.{statement}
 use Rattle.link_receiving.proofs.receive_again.Tie as tie
-use Rattle.link_receiving.proofs.receive_again.Reads as reads
-use Rattle.link_receiving.proofs.receive_again.Lts as lts
-use Rattle.events.proofs.emit.Reads as emit-reads
-use Rattle.events.proofs.request.Reads as request-reads
-use Rattle.link_codes.proofs.clock_in.Reads as clock-in-reads
-use Rattle.link_numbers.proofs.put.Reads as put-reads
-use Rattle.parts.proofs.full_bytes.Reads as full-bytes-reads
-use Rattle.parts.proofs.full_words.Reads as full-words-reads
 
 full-words-requires : tie.Need-full-words-requires
 full-words-requires c κs = search needs

@@ -3,12 +3,6 @@ use Rattle.link_receiving.proofs.Drives.{codes, above, choosing}
 use borrow.Author.Needs.{needs}
 use Rattle.link_receiving.proofs.receive_new.Statement.{statement}
 use Rattle.link_receiving.proofs.receive_new.Tie as tie
-use Rattle.link_receiving.proofs.receive_new.Reads as reads
-use Rattle.link_receiving.proofs.receive_new.Lts as lts
-use Rattle.link_receiving.proofs.enqueue.Reads as enqueue-reads
-use Rattle.link_receiving.proofs.take_now.Reads as take-now-reads
-use Rattle.link_draining.proofs.turn_of.Reads as turn-of-reads
-use Rattle.receiving.proofs.delivers.Reads as delivers-reads
 
 turn-of-requires : tie.Need-turn-of-requires
 turn-of-requires c κs =

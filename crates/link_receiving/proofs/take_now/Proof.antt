@@ -5,16 +5,6 @@ use Rattle.link_receiving.proofs.Steps.{few-now, abandoning, refused, m
 use borrow.Author.Needs.{needs}
 use Rattle.link_receiving.proofs.take_now.Statement.{statement}
 use Rattle.link_receiving.proofs.take_now.Tie as tie
-use Rattle.link_receiving.proofs.take_now.Reads as reads
-use Rattle.link_receiving.proofs.take_now.Lts as lts
-use Rattle.delivery.proofs.deliver.Reads as deliver-reads
-use Rattle.events.proofs.request.Reads as request-reads
-use Rattle.link_draining.proofs.abandon.Reads as abandon-reads
-use Rattle.link_draining.proofs.carry.Reads as carry-reads
-use Rattle.link_numbers.proofs.put.Reads as put-reads
-use Rattle.link_queue.proofs.up_to.Reads as up-to-reads
-use Rattle.parts.proofs.full_bytes.Reads as full-bytes-reads
-use Rattle.parts.proofs.full_words.Reads as full-words-reads
 
 full-words-requires : tie.Need-full-words-requires
 full-words-requires c κs = search needs
