@@ -17,7 +17,7 @@ struct Script {
     used: usize,
 }
 
-fn begin(message_number: u64, outbound: &mut [u8], queue: &mut [u8]) -> Script
+fn begin(message_number: u64, outbound: &mut [u8; 65536], queue: &mut [u8; 32768]) -> Script
     ensures { λ r. ⌜ r .used ≤ 65536 ⌝ }
 {
     let r = calling::start(message_number, outbound, queue);
