@@ -1,8 +1,8 @@
 -- Data in any mode, driven. Assumes nothing.
-use mathlib.Core.Path.{_≡_, refl, sym}
-use mathlib.Core.Bool.{Bool, true, false}
+use mathlib.Core.Path.{_≡_, refl, sym, ap, _∙_}
+use mathlib.Core.Bool.{true, false}
 use mathlib.Core.List.{List}
-use Prim.Native.Nat.{ℕ, _≤_, _<_}
+use Prim.Native.Nat.{ℕ, _≤_}
 use lib.Ieee.{Float}
 use lib.ListN.{length}
 use lib.Dec.{ltb}
@@ -18,19 +18,16 @@ use Rattle.events.specs.declared.Stop.{Stop}
 use Rattle.events.specs.declared.Stop.the-variants.{No, By}
 use Rattle.peer_session.specs.Sound as Sounds
 use Rattle.session.specs.Promise.{lent, Called}
-use Rattle.delivery.specs.declared.Turn.{Turn}
 use Rattle.draining.specs.Arrived.{told}
-use Rattle.draining.specs.Turns.{turnOf}
 use Rattle.draining.specs.Ends.{Fails}
 use Rattle.receiving.specs.declared.Verdict.{Verdict}
 use Rattle.receiving.specs.declared.Verdict.the-variants.{Refuse, Fail, Again, New}
-use Rattle.receiving.specs.Checks.{Acknowledges, Acknowledging, Anew, Delivers}
+use Rattle.receiving.specs.Checks.{Acknowledges, Acknowledging, Anew}
 use Rattle.receiving.proofs.Checks.{spent, spent-reach}
 use Rattle.receiving.proofs.Data.{data-takes, check-fits, fail-fits, refused-by, failed-by, again-fits, again-by, new-fits, new-by}
-use Rattle.receiving.proofs.Next.{new-above, taking}
 use Rattle.parts.specs.declared.LinkAnswer.{LinkAnswer}
-use Rattle.parts.specs.Codes.{good-codes, answerOf}
-use Rattle.parts.specs.Parts.{Parts, parts, codesIn, openedOf}
+use Rattle.parts.specs.Codes.{handed, answerOf}
+use Rattle.parts.specs.Parts.{Parts, parts, openedOf}
 use Rattle.parts.specs.Driven.{Driven}
 use Rattle.parts.proofs.Drives.{refuses, changes}
 use Rattle.link_numbers.specs.Sets.{Rising}
@@ -41,7 +38,8 @@ use Rattle.link_draining.specs.Steps.{Failing}
 use Rattle.link_checks.specs.Entry.{Spends, Enters}
 use Rattle.link_checks.specs.Checks.{Countable, Judged}
 use Rattle.link_checks.proofs.Entry.{found-by, arrives}
-use Rattle.link_receiving.specs.Steps.{Arriving, Receiving, Taking}
+use Rattle.link_arrivals.specs.Steps.{Receiving}
+use Rattle.link_receiving.specs.Steps.{Arriving}
 
 module _ (status : HostStatus) (f : Frame) (w h b : List ℕ) (t : Float) (l : List ℕ) (d o q : Bytes) (pre : Arriving f w h b t l d o q) where
   abbrev p : Parts
@@ -88,19 +86,6 @@ module _ (status : HostStatus) (f : Frame) (w h b : List ℕ) (t : Float) (l : L
           changes p (pre .arrived .good) p′ (openedOf p′) refl (told (Flag true) (r .stop)) (r .events) a
           (new-by status f (openedOf p) l d o q (pre .arrived) (pre .kind) (j h b t) e c refl)
 
--- ---- data that is no duplicate
-
-module _ {f : Frame} (w h b : List ℕ) (t : Float) {l : List ℕ} {d o q : Bytes} (pre : Receiving f w h b t l d o q) where
-  pub codes : good-codes (codesIn h b) ≡ true
-  codes = usable w h b t (pre .checked) .codes
-
-  module _ {u : Turn} (e : u ≡ turnOf (openedOf (parts w h b t))) where
-    pub above : u .remote < f .number
-    above = new-above (pre .receiving) e
-
-    pub choosing : (now : Bool) (status : HostStatus) {r : Bool} → Delivers status (f .number) (f .kind) u r → r ≡ now → Taking now status u f w h b t l d o q
-    choosing now status g z = record { checked = pre .checked; taking = taking now status (pre .receiving) e g z }
-
 -- ---- the call
 
 data-code : (status : HostStatus) (f : Frame) → wrong-code (gets-data status f) ≡ ltb 2 (f .kind)
@@ -122,3 +107,12 @@ module _ (status : HostStatus) (f : Frame) (w h b : List ℕ) (t : Float) (l : L
 
   pub arriving : z ≡ No → Arriving f w h b t l d o q
   arriving ez = record { arrived = arrives l d o q e t ez; kind = ltb-false 2 (f .kind) (found-by l d o q e t No ez .known) }
+
+-- ---- the answer
+
+module _ (e : Ending) {x : LinkAnswer} where
+  pub answered-no : e .stop ≡ No → x ≡ handed 0 2 1 0 0 (e .events) → x ≡ answerOf (told (Flag true) (e .stop)) (e .events)
+  answered-no z h = h ∙ sym (ap (λ (y : Stop). answerOf (told (Flag true) y) (e .events)) z)
+
+  pub answered-by : (y : Refusal) → e .stop ≡ By y → x ≡ answerOf (Refused y) (e .events) → x ≡ answerOf (told (Flag true) (e .stop)) (e .events)
+  answered-by y z h = h ∙ sym (ap (λ (v : Stop). answerOf (told (Flag true) v) (e .events)) z)

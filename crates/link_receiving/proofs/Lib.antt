@@ -1,3 +1,2 @@
--- The laws of data in any mode, in place: `Steps` the steps, from those of the driver's call; `Drives` the call.
-pub mod Steps
+-- The laws of data in any mode, in place.
 pub mod Drives

@@ -1,2 +1,2 @@
--- What the contracts of data in any mode cite: `Steps` what must hold for its steps.
+-- What the contracts of data in any mode cite.
 pub mod Steps

@@ -1,4 +1,4 @@
-use Rattle.link_receiving.proofs.Steps.{answered-no, answered-by}
+use Rattle.link_receiving.proofs.Drives.{answered-no, answered-by}
 use borrow.Author.Needs.{needs}
 use Rattle.link_receiving.proofs.answered.Statement.{statement}
 use Rattle.link_receiving.proofs.answered.Tie as tie

@@ -1,8 +1,8 @@
 use native.Mathlib.Omega.{arith}
-use Rattle.link_receiving.proofs.Steps.{answers, waits, fits}
+use Rattle.link_arrivals.proofs.Steps.{answers, waits, fits}
 use borrow.Author.Needs.{needs}
-use Rattle.link_receiving.proofs.receive_again.Statement.{statement}
-use Rattle.link_receiving.proofs.receive_again.Tie as tie
+use Rattle.link_arrivals.proofs.receive_again.Statement.{statement}
+use Rattle.link_arrivals.proofs.receive_again.Tie as tie
 
 full-words-requires : tie.Need-full-words-requires
 full-words-requires c κs = search needs

@@ -1,8 +1,8 @@
 use native.Mathlib.Omega.{arith}
-use Rattle.link_receiving.proofs.Steps.{few-later, topped-later, listed-later, sums, body-short, may-fail, carrying-kept, queued-already, too-many, too-long, may-insert, carrying-joined, joined}
+use Rattle.link_arrivals.proofs.Steps.{few-later, topped-later, listed-later, sums, body-short, may-fail, carrying-kept, queued-already, too-many, too-long, may-insert, carrying-joined, joined}
 use borrow.Author.Needs.{needs}
-use Rattle.link_receiving.proofs.enqueue.Statement.{statement}
-use Rattle.link_receiving.proofs.enqueue.Tie as tie
+use Rattle.link_arrivals.proofs.enqueue.Statement.{statement}
+use Rattle.link_arrivals.proofs.enqueue.Tie as tie
 
 full-words-requires : tie.Need-full-words-requires
 full-words-requires c κs = search needs

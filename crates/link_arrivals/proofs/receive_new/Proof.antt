@@ -1,8 +1,8 @@
 use mathlib.Core.Bool.{true, false}
-use Rattle.link_receiving.proofs.Drives.{codes, above, choosing}
+use Rattle.link_arrivals.proofs.Steps.{codes, above, choosing}
 use borrow.Author.Needs.{needs}
-use Rattle.link_receiving.proofs.receive_new.Statement.{statement}
-use Rattle.link_receiving.proofs.receive_new.Tie as tie
+use Rattle.link_arrivals.proofs.receive_new.Statement.{statement}
+use Rattle.link_arrivals.proofs.receive_new.Tie as tie
 
 turn-of-requires : tie.Need-turn-of-requires
 turn-of-requires c κs =

@@ -13,13 +13,8 @@ use Rattle.rules.specs.declared.Refusal.{Refusal}
 use Rattle.rules.specs.declared.Refusal.the-variants.{QueueCount, QueueBytes}
 use Rattle.rules.specs.Lists.{Bytes, any, put, itself}
 use Rattle.rules.specs.State.{Frame, frame-number, is-frame}
-use Rattle.events.specs.declared.Stop.{Stop}
 use Rattle.events.specs.declared.Stop.the-variants.{No, By}
-use Rattle.rules.specs.declared.Answer.the-variants.{Flag, Refused}
-use Rattle.draining.specs.Arrived.{told}
-use Rattle.parts.specs.declared.LinkAnswer.{LinkAnswer}
-use Rattle.parts.specs.Codes.{good-codes, handed, answerOf}
-use Rattle.link_draining.specs.declared.Ending.{Ending}
+use Rattle.parts.specs.Codes.{good-codes, handed}
 use Rattle.events.specs.Written.{Listed, asked, books}
 use Rattle.numbers.specs.declared.Numbers.{Numbers}
 use Rattle.numbers.specs.Seats.{inUse, ExactNumbers}
@@ -31,9 +26,10 @@ use Rattle.delivery.specs.declared.Turn.{Turn}
 use Rattle.delivery.specs.declared.Step.{Step}
 use Rattle.delivery.specs.Turns.{Delivered}
 use Rattle.draining.specs.declared.Ended.{Ended}
-use Rattle.draining.specs.Turns.{with-queue}
+use Rattle.draining.specs.Turns.{turnOf, with-queue}
 use Rattle.draining.specs.Ends.{Fails, Abandoning, Abandons, Carrying, Carries}
-use Rattle.receiving.specs.Checks.{Acknowledges, Acknowledging, Anew}
+use Rattle.receiving.specs.Checks.{Acknowledges, Acknowledging, Anew, Delivers}
+use Rattle.receiving.proofs.Next.{new-above, taking}
 use Rattle.receiving.proofs.Again.{answers-again, waits-again}
 use Rattle.receiving.proofs.Now.{good, now-abandoning, now-refused, put-fits, request-room, now-carrying, now-taken}
 use Rattle.receiving.proofs.Later.{body-fits, kept-carrying, kept-queued, queue-many, queue-long, enters, joins-carrying, joins-queue}
@@ -45,7 +41,7 @@ use Rattle.link_queue.proofs.Sums.{end-bodies}
 use Rattle.link_queue.proofs.Tops.{topped}
 use Rattle.link_sound.proofs.Parts.{usable}
 use Rattle.link_draining.specs.Steps.{Failing}
-use Rattle.link_receiving.specs.Steps.{Taking}
+use Rattle.link_arrivals.specs.Steps.{Receiving, Taking}
 use Rattle.link_draining.proofs.Sessions.{with-waiting, rewaited, requeued}
 
 -- ---- a duplicate
@@ -265,11 +261,15 @@ module _ {status : HostStatus} {u : Turn} {f : Frame} (w h b : List ℕ) (t : Fl
               (subst (λ (v : Numbers). Carries status u v 0 (with-queue (queueIn w₁ h₁ b₁) S₂) l₁ n d 0 o q₁ r l′ d′ o′ q′) acks
               (subst (λ (z : SessionState). Carries status u (waitingIn w₁) 0 z l₁ n d 0 o q₁ r l′ d′ o′ q′) session k))
 
--- ---- the answer
+-- ---- data that is no duplicate
 
-module _ (e : Ending) {x : LinkAnswer} where
-  pub answered-no : e .stop ≡ No → x ≡ handed 0 2 1 0 0 (e .events) → x ≡ answerOf (told (Flag true) (e .stop)) (e .events)
-  answered-no z h = h ∙ sym (ap (λ (y : Stop). answerOf (told (Flag true) y) (e .events)) z)
+module _ {f : Frame} (w h b : List ℕ) (t : Float) {l : List ℕ} {d o q : Bytes} (pre : Receiving f w h b t l d o q) where
+  pub codes : good-codes (codesIn h b) ≡ true
+  codes = usable w h b t (pre .checked) .codes
 
-  pub answered-by : (y : Refusal) → e .stop ≡ By y → x ≡ answerOf (Refused y) (e .events) → x ≡ answerOf (told (Flag true) (e .stop)) (e .events)
-  answered-by y z h = h ∙ sym (ap (λ (v : Stop). answerOf (told (Flag true) v) (e .events)) z)
+  module _ {u : Turn} (e : u ≡ turnOf (openedOf (parts w h b t))) where
+    pub above : u .remote < f .number
+    above = new-above (pre .receiving) e
+
+    pub choosing : (now : Bool) (status : HostStatus) {r : Bool} → Delivers status (f .number) (f .kind) u r → r ≡ now → Taking now status u f w h b t l d o q
+    choosing now status g z = record { checked = pre .checked; taking = taking now status (pre .receiving) e g z }

@@ -1,10 +1,10 @@
 use mathlib.Core.Path.{_∙_}
 use native.Mathlib.Omega.{arith}
 use Rattle.receiving.proofs.Now.{ready}
-use Rattle.link_receiving.proofs.Steps.{few-now, abandoning, refused, may-put, may-request, carrying, taken}
+use Rattle.link_arrivals.proofs.Steps.{few-now, abandoning, refused, may-put, may-request, carrying, taken}
 use borrow.Author.Needs.{needs}
-use Rattle.link_receiving.proofs.take_now.Statement.{statement}
-use Rattle.link_receiving.proofs.take_now.Tie as tie
+use Rattle.link_arrivals.proofs.take_now.Statement.{statement}
+use Rattle.link_arrivals.proofs.take_now.Tie as tie
 
 full-words-requires : tie.Need-full-words-requires
 full-words-requires c κs = search needs

@@ -1,0 +1,2 @@
+-- What the contracts of data that passed its checks cite.
+pub mod Steps
