@@ -1,4 +1,6 @@
 // Document 01's numbers and values of answers, as programs print them.
+#![tactic(auto)]
+
 ghost use Rattle.std.specs.Prelude.{◌≡◌};
 ghost use Rattle.rules.specs.Answers.{refusal_number, flag_value, answer_value};
 ghost use Rattle.answers.specs.Numbers.{message_number};

@@ -1,4 +1,6 @@
 // The calls of a script, made on its session.
+#![tactic(auto)]
+
 use call_reading::records::{Handoff, Record};
 use call_reading::{Call, Opening};
 use peer_session::SessionState;

@@ -1,4 +1,6 @@
 // What the call script prints of a call, and of the state of a session.
+#![tactic(auto)]
+
 ghost use Rattle.std.specs.Prelude.{◌+◌, ◌≤◌};
 
 use rules::Answer;

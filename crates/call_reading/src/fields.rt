@@ -6,38 +6,38 @@ use text::{Filled, Taken};
 
 const WRONG: usize = usize::MAX;
 
-#[derive(Drop)]
+#[derive(Clone, Copy)]
 pub struct Number {
     pub value: u64,
     pub end: usize,
 }
 
-#[derive(Drop)]
+#[derive(Clone, Copy)]
 pub struct Narrow {
     pub value: u32,
     pub end: usize,
 }
 
-#[derive(Drop)]
+#[derive(Clone, Copy)]
 pub struct Flag {
     pub value: bool,
     pub end: usize,
 }
 
-#[derive(Drop)]
+#[derive(Clone, Copy)]
 pub struct Status {
     pub value: HostStatus,
     pub end: usize,
 }
 
-#[derive(Drop)]
+#[derive(Clone, Copy)]
 pub struct Time {
     pub value: f64,
     pub end: usize,
 }
 
 // A body that was read into a buffer.
-#[derive(Drop)]
+#[derive(Clone, Copy)]
 pub struct Body {
     pub len: usize,
     pub end: usize,

@@ -1,4 +1,6 @@
 // The call of a line. The bodies of a line lie one after the other in a buffer that holds all that a line can bring.
+#![tactic(auto)]
+
 use records::{Handoff, Record};
 use rules::{HostStatus, Policy, PreparedCommit, Terms};
 
@@ -7,7 +9,7 @@ mod patterns; // an f64 of its bits
 pub mod records; // the record of a start or a restore
 
 // A call's body has its length here.
-#[derive(Drop)]
+#[derive(Clone, Copy)]
 pub enum Call {
     Send(usize),
     Data {
@@ -58,14 +60,14 @@ pub enum Call {
 }
 
 // The reject body comes first in the buffer.
-#[derive(Drop)]
+#[derive(Clone, Copy)]
 pub struct Opening {
     pub record: Record,
     pub policy: Policy,
     pub reject: usize,
 }
 
-#[derive(Drop)]
+#[derive(Clone, Copy)]
 pub enum Line {
     Start(Opening),
     Call(Call),

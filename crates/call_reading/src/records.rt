@@ -2,7 +2,7 @@
 // message more than a record may have: of those after it only the bodies are read, since 257 are refused as any more would be.
 use crate::fields;
 
-#[derive(Drop)]
+#[derive(Clone, Copy)]
 pub struct Numbers {
     pub message_number: u64,
     pub remote: u64,
@@ -11,7 +11,7 @@ pub struct Numbers {
 }
 
 // How many messages there are, 257 at most, and where their bodies lie in the buffer.
-#[derive(Drop)]
+#[derive(Clone, Copy)]
 pub struct Record {
     pub message_number: u64,
     pub remote: u64,
@@ -23,7 +23,7 @@ pub struct Record {
 }
 
 // A handoff's body comes after those of the messages.
-#[derive(Drop)]
+#[derive(Clone, Copy)]
 pub struct Handoff {
     pub present: bool,
     pub id: u64,
@@ -34,7 +34,7 @@ pub struct Handoff {
     pub end: usize,
 }
 
-#[derive(Drop)]
+#[derive(Clone, Copy)]
 struct Messages {
     count: usize,
     to: usize,

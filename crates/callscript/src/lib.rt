@@ -1,4 +1,6 @@
 // The call script: reads the calls of document 01 from the lines of standard input, makes them on one session, and prints what each answers.
+#![tactic(auto)]
+
 ghost use Rattle.std.specs.Prelude.{◌≤◌};
 
 use call_reading::{Call, Line, Opening};
@@ -6,7 +8,7 @@ use peer_session::SessionState;
 use rules::Answer;
 
 // The session, whether there is one, the number of the line, and how much of the output buffer is used.
-#[derive(Drop)]
+#[derive(Clone, Copy)]
 struct Script {
     session: SessionState,
     started: bool,

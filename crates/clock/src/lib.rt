@@ -1,4 +1,6 @@
 // The replay clock: IEEE 754 double precision.
+#![tactic(auto)]
+
 ghost use Rattle.std.specs.Prelude.{◌≡◌};
 ghost use Rattle.rules.specs.Clock.{held_back};
 

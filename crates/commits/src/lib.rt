@@ -1,4 +1,6 @@
 // Commits: the Rust's `prepare_commit` and `complete_commit` (session.rs, peer_session.rs). Between the two the host writes the session to its store.
+#![tactic(auto)]
+
 ghost use Rattle.std.specs.Prelude.{◌+◌, ◌*◌, ◌≤◌, length};
 ghost use Rattle.rules.specs.Calls.{prepares, completes};
 ghost use Rattle.events.specs.Written.{Listed};
@@ -43,7 +45,7 @@ pub fn persisted_by(c: Clock, commit: PreparedCommit, persisted: bool) -> Clock
 }
 
 // The Rust's `ReleasedFrames`: the session without them, and how many were listed.
-#[derive(Drop)]
+#[derive(Clone, Copy)]
 pub struct ReleasedFrames {
     pub session: SessionState,
     pub events: usize,

@@ -1,4 +1,6 @@
 // The Rust's `consumer_ready` (session.rs): what takes messages changed, and is ready.
+#![tactic(auto)]
+
 ghost use Rattle.std.specs.Prelude.{◌≡◌, ◌≤◌};
 ghost use Rattle.rules.specs.Receiving.{mode_of};
 ghost use Rattle.rules.specs.Calls.{is_ready};

@@ -1,5 +1,7 @@
 // Deliveries: what a mode does with a message, and the drain of the queue (`deliver`, `drain_contiguous` of session.rs; `receive`, `proposal_received`,
 // `reject_inbound`, `delivered` of the state).
+#![tactic(auto)]
+
 ghost use Rattle.std.specs.Prelude.{◌≡◌, ◌+◌, ◌*◌, ◌≤◌, length, take, drop};
 ghost use Rattle.rules.specs.declared.ReceiveMode.TheVariants.{Proposal, Rejection};
 ghost use Rattle.events.specs.Written.{books};
@@ -14,7 +16,7 @@ use rules::{Clock, HostStatus, ReceiveMode, Refusal};
 
 // What deliveries change, while a call is under way: numbers only, so that a drain moves no array. The outbox and the stores follow once, at the call's
 // end: the rejection was sent anew, or everything unacked dropped, or both in this order.
-#[derive(Drop)]
+#[derive(Clone, Copy)]
 pub struct Turn {
     pub mode: ReceiveMode,
     // whether a delivery failed earlier; only in Channel mode
@@ -31,14 +33,14 @@ pub struct Turn {
 }
 
 // A turn, and the refusal that ended it.
-#[derive(Drop)]
+#[derive(Clone, Copy)]
 pub struct Proposed {
     pub turn: Turn,
     pub stop: Stop,
 }
 
 // A turn with the count of events, the first free byte of the delivery buffer, and the refusal that ended it.
-#[derive(Drop)]
+#[derive(Clone, Copy)]
 pub struct Step {
     pub turn: Turn,
     pub events: usize,
@@ -47,7 +49,7 @@ pub struct Step {
 }
 
 // A step at the end of a drain, with the acks that wait and how many frames were taken from the front of the queue.
-#[derive(Drop)]
+#[derive(Clone, Copy)]
 pub struct Drained {
     pub turn: Turn,
     pub waiting: Numbers,

@@ -1,4 +1,6 @@
 // The part of receiving that data and consumer ready share: a turn begins at a session, the queue is drained, and what came of it is stored.
+#![tactic(auto)]
+
 ghost use Rattle.std.specs.Prelude.{◌≡◌, false, ◌+◌, ◌*◌, ◌≤◌, length, take};
 ghost use Rattle.outbox.specs.Steps.{Room, Appended};
 ghost use Rattle.queue.specs.View.{ExactQueue};
@@ -14,7 +16,7 @@ use peer_session::{RejectBody, SessionState};
 use rules::{HostStatus, Refusal};
 
 // The session that a call ends with, the count of events, and the refusal that ended it.
-#[derive(Drop)]
+#[derive(Clone, Copy)]
 pub struct Ended {
     pub session: SessionState,
     pub events: usize,

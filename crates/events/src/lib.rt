@@ -1,4 +1,6 @@
 // The event list that a caller lends: four words for each event, written from the front, the rest kept.
+#![tactic(auto)]
+
 ghost use Rattle.std.specs.Prelude.{◌≡◌, ◌∷◌, [], ◌+◌, ◌*◌, ◌≤◌, length};
 ghost use Rattle.stores.specs.Placed.{placed};
 ghost use Rattle.events.specs.Written.{asked, Listed};
@@ -6,7 +8,7 @@ ghost use Rattle.events.specs.Written.{asked, Listed};
 use rules::Clock;
 
 // Whether a refusal ended what was under way: the Rust's `Result`.
-#[derive(Drop)]
+#[derive(Clone, Copy)]
 pub enum Stop {
     No,
     By(rules::Refusal),

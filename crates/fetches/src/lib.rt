@@ -1,4 +1,6 @@
 // The body of a held message, as a part of the outbound store and not a copy.
+#![tactic(auto)]
+
 ghost use Rattle.fetches.specs.Fetched.{AnsweredWithOutbound, Fetched};
 ghost use Rattle.rules.specs.Calls.{fetches};
 

@@ -1,5 +1,7 @@
 // Standard input in chunks, and standard output through a buffer of 65,536 bytes that is written when it is full. What print_.. puts there
 // starts at index n, and they return the index after it; the caller ends with flush.
+#![tactic(auto)]
+
 ghost use Rattle.std.specs.Prelude.{◌+◌, ◌≤◌, length};
 ghost use Rattle.text.specs.Output.{Put};
 ghost use Rattle.lines.specs.Numerals.{Decimals, hex16_text};
@@ -36,7 +38,7 @@ pub fn read_some(chunk: &mut [u8; 65536]) -> usize
 
 // The input so far: the index where the chunk goes on, how much of the chunk is filled, and of the last line its size, which is one more than its
 // buffer's where it is too long, and whether there was one.
-#[derive(Drop)]
+#[derive(Clone, Copy)]
 pub struct Input {
     pub at: usize,
     pub filled: usize,

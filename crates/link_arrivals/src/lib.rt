@@ -1,4 +1,6 @@
 // Data that passed its checks, on the parts of a session, in place: a duplicate, data that is delivered now, and data that waits for its turn.
+#![tactic(auto)]
+
 ghost use Rattle.std.specs.Prelude.{true, false, length};
 ghost use Rattle.delivery.specs.Turns.{frame_of};
 ghost use Rattle.receiving.specs.Checks.{Acknowledges, Acknowledging, Anew};

@@ -1,6 +1,8 @@
 // The link for C: every exported call on a session that C lends in parts (crate parts). Slices are pointer and length. No call asks anything of its
 // caller: a short buffer is refused by 1, a wrong code by 2, parts that no calls leave by 3, and what is refused changes nothing.
 // include/link.h declares what is here.
+#![tactic(auto)]
+
 ghost use Rattle.std.specs.Prelude.{◌≡◌};
 ghost use Rattle.rules.specs.Start.{link_class};
 ghost use Rattle.starts.specs.Started.{Started};
@@ -21,7 +23,7 @@ pub mod questions; // what a session is asked
 
 // The policy of a class, where it is known.
 #[repr(C)]
-#[derive(Drop)]
+#[derive(Clone, Copy)]
 pub struct LinkPolicy {
     pub policy: Policy,
     pub known: bool,

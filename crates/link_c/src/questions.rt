@@ -14,7 +14,7 @@ use session::ChannelTerms;
 
 // The terms of a session that waits.
 #[repr(C)]
-#[derive(Drop)]
+#[derive(Clone, Copy)]
 pub struct LinkTerms {
     pub terms: Terms,
     pub waiting: bool,

@@ -1,4 +1,6 @@
 // What is tested before anything is changed, on the parts of a session: at the entry of a call that takes all four buffers, and of data past it.
+#![tactic(auto)]
+
 ghost use Rattle.link_checks.specs.Entry.{Enters};
 ghost use Rattle.link_checks.specs.Checks.{Countable, Filled, Judged};
 

@@ -1,4 +1,6 @@
 // Commits on the parts of a session, in place: the driver's calls on the session that they are.
+#![tactic(auto)]
+
 ghost use Rattle.std.specs.Prelude.{length};
 ghost use Rattle.rules.specs.Calls.{prepares, completes};
 ghost use Rattle.session.specs.Promise.{Answered, CalledWithList};

@@ -1,4 +1,6 @@
 // The Rust's `consumer_ready` (session.rs) on the parts of a session, in place: the driver's call on the session that they are.
+#![tactic(auto)]
+
 ghost use Rattle.rules.specs.Calls.{is_ready};
 ghost use Rattle.session.specs.Promise.{lent, Called};
 ghost use Rattle.parts.specs.Parts.{parts};

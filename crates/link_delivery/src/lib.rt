@@ -1,4 +1,6 @@
 // The drain of the queue on the parts of a session: frames are read, and acks that wait are written, where they lie.
+#![tactic(auto)]
+
 ghost use Rattle.std.specs.Prelude.{◌≡◌, ◌+◌, ◌*◌, ◌≤◌, length, take, drop};
 ghost use Rattle.events.specs.Written.{books};
 ghost use Rattle.delivery.specs.Turns.{frame_of, Ready, Delivered, Draining};
@@ -12,7 +14,7 @@ use rules::{HostStatus, ReceiveMode};
 
 // Where a drain ended: the turn, how many frames were taken from the front of the queue, the count of events, the first free byte of the delivery
 // buffer, and the refusal that ended it.
-#[derive(Drop)]
+#[derive(Clone, Copy)]
 pub struct DrainEnd {
     pub turn: Turn,
     pub taken: usize,

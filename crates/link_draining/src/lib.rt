@@ -1,5 +1,7 @@
 // The part of receiving that data and consumer ready share, on the parts of a session, in place: a turn begins at it, the queue is drained, and what came
 // of it is stored.
+#![tactic(auto)]
+
 ghost use Rattle.std.specs.Prelude.{◌≡◌, true, ◌≤◌, length};
 ghost use Rattle.outbox.specs.View.{ExactOutbox};
 ghost use Rattle.outbox.specs.Steps.{Room};
@@ -18,7 +20,7 @@ use parts::{Bytes, Halves, Words, full_bytes, full_halves, full_words};
 use rules::{Clock, HostStatus, Refusal};
 
 // The count of events at a call's end, and the refusal that ended it.
-#[derive(Drop)]
+#[derive(Clone, Copy)]
 pub struct Ending {
     pub events: usize,
     pub stop: Stop,

@@ -1,4 +1,6 @@
 // A fetch on the parts of a session, in place: the driver's, on the session that they are.
+#![tactic(auto)]
+
 ghost use Rattle.std.specs.Prelude.{◌≡◌};
 ghost use Rattle.rules.specs.Calls.{fetches};
 ghost use Rattle.outbox.specs.Records as Records;

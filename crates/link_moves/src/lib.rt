@@ -1,4 +1,6 @@
 // Elements of one part of a session that C lends move to other places of it, as records of a list do when some go or one comes.
+#![tactic(auto)]
+
 ghost use Rattle.std.specs.Prelude.{◌+◌, ◌≤◌, ◌<◌};
 ghost use Rattle.link_moves.specs.Moves.{Lowered, Raised};
 

@@ -1,4 +1,6 @@
 // Sets of numbers in the words of a session, in place: 512 words from index `from` on, rising, with their count at index `at` before them.
+#![tactic(auto)]
+
 ghost use Rattle.std.specs.Prelude.{◌≡◌, true, ◌++◌, ◌∷◌, [], map, ◌+◌, ◌-◌, ◌*◌, ◌≤◌, ◌<◌, length, take, drop, ltb};
 ghost use Rattle.std.proofs.Math.Seq.{slice};
 ghost use Rattle.rules.specs.Lists.{itself, has, put, all, rising, kept};

@@ -1,4 +1,6 @@
 // What a session is asked, on its parts: of any session, whatever its stores hold.
+#![tactic(auto)]
+
 ghost use Rattle.std.specs.Prelude.{◌≡◌};
 ghost use Rattle.rules.specs.Clock.{dirty};
 ghost use Rattle.rules.specs.Lists.{Bytes};

@@ -1,4 +1,6 @@
 // The frames that came too early, of a session that C lends, worked on where they lie.
+#![tactic(auto)]
+
 ghost use Rattle.std.specs.Prelude.{◌≡◌, true, List, [], ℕ, ◌+◌, ◌-◌, ◌≤◌, eqb, length, take, drop, replicate};
 ghost use Rattle.stores.specs.Placed.{placed};
 ghost use Rattle.rules.specs.Lists.{Bytes, if◌then◌else◌, any, put};

@@ -1,4 +1,6 @@
 // Data in any mode, on the parts of a session, in place: the Rust's `receive_data` (session.rs).
+#![tactic(auto)]
+
 ghost use Rattle.std.specs.Prelude.{◌≡◌, true};
 ghost use Rattle.rules.specs.declared.Answer.TheVariants.{Flag};
 ghost use Rattle.rules.specs.Calls.{gets_data};

@@ -1,4 +1,6 @@
 // Replays on the parts of a session, in place: the driver's call on the session that they are.
+#![tactic(auto)]
+
 ghost use Rattle.std.specs.Prelude.{length};
 ghost use Rattle.rules.specs.Calls.{connects};
 ghost use Rattle.session.specs.Promise.{CalledWithList};

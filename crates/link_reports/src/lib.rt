@@ -1,4 +1,6 @@
 // Reports of sends, and keepalives, on the parts of a session, in place: the driver's calls on the session that they are.
+#![tactic(auto)]
+
 ghost use Rattle.std.specs.Prelude.{◌≡◌, true, length};
 ghost use Rattle.rules.specs.Calls.{reports, gets_keepalive};
 ghost use Rattle.session.specs.Promise.{CalledWithList, ToldWithList};

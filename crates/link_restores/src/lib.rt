@@ -1,4 +1,6 @@
 // A restore on the parts of a session, in place: what it changes is written where it lies.
+#![tactic(auto)]
+
 ghost use Rattle.std.specs.Prelude.{◌≡◌, ◌≤◌, length};
 ghost use Rattle.rules.specs.Start.{handoff_size, same_handoff, agrees};
 ghost use Rattle.peer_session.specs.View.{handoff_of, handoff_length};

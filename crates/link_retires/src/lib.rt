@@ -1,4 +1,6 @@
 // The call that ends a session, on its parts, in place: the driver's call on the session that they are.
+#![tactic(auto)]
+
 ghost use Rattle.std.specs.Prelude.{◌≡◌, ◌&&◌, eqb, length};
 ghost use Rattle.rules.specs.Calls.{retires};
 ghost use Rattle.outbox.specs.View.{ExactOutbox};

@@ -1,4 +1,6 @@
 // A send on the parts of a session, in place: the driver's send on the session that they are.
+#![tactic(auto)]
+
 ghost use Rattle.std.specs.Prelude.{length};
 ghost use Rattle.rules.specs.Calls.{sends};
 ghost use Rattle.outbox.specs.View.{ExactOutbox};

@@ -1,4 +1,6 @@
 // The calls that set a session up, on its parts, in place: the driver's calls on the session that they are.
+#![tactic(auto)]
+
 ghost use Rattle.std.specs.Prelude.{◌≡◌, true, length};
 ghost use Rattle.rules.specs.Calls.{accepts, rejects, prepares_channel};
 ghost use Rattle.session.specs.Promise.{CalledWithOutbound, CalledWithOutboundAlone, CalledAlone};

@@ -1,4 +1,6 @@
 // Reads calls on standard input, one a line, makes them on one session, and prints what each answers.
+#![tactic(auto)]
+
 fn main() {
     callscript::run();
 }

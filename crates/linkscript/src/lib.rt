@@ -1,4 +1,6 @@
 // Document 01's `linkrun`: reads calls from the lines of standard input, makes them on one session, and prints each.
+#![tactic(auto)]
+
 ghost use Rattle.std.specs.Prelude.{◌≤◌};
 
 use peer_session::SessionState;
@@ -10,7 +12,7 @@ mod printing; // what is printed of a call
 mod reading; // the call of a line
 
 // The session, the record for its next completion, the number of the line, and how much of the output buffer is used.
-#[derive(Drop)]
+#[derive(Clone, Copy)]
 struct Script {
     session: SessionState,
     commit: PreparedCommit,

@@ -2,7 +2,7 @@
 use text::{Filled, Taken};
 
 // A body lies in the buffer for it, which has its length here.
-#[derive(Drop)]
+#[derive(Clone, Copy)]
 pub enum Call {
     Send(usize),
     Prepare,
@@ -11,13 +11,13 @@ pub enum Call {
     Report(u64, bool),
 }
 
-#[derive(Drop)]
+#[derive(Clone, Copy)]
 pub enum Line {
     Call(Call),
     Wrong,
 }
 
-#[derive(Drop)]
+#[derive(Clone, Copy)]
 enum Flag {
     Value(bool),
     Wrong,

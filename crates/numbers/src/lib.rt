@@ -1,4 +1,6 @@
 // Sets of numbers: rising arrays, with a count. The acks that wait for a commit, and those to be sent again.
+#![tactic(auto)]
+
 ghost use Rattle.std.specs.Prelude.{◌≡◌, ◌++◌, ◌∷◌, [], map, ◌+◌, ◌-◌, ◌*◌, ◌≤◌, ◌<◌, length, take, drop, ltb};
 ghost use Rattle.std.proofs.Math.Seq.{slice};
 ghost use Rattle.stores.specs.Placed.{placed};
@@ -11,14 +13,14 @@ ghost use Rattle.events.specs.Written.{Listed};
 ghost use Rattle.numbers.specs.Seats.{in_use, seat_of, step, Holds, ReleasesAcks};
 
 #[repr(C)]
-#[derive(Drop)]
+#[derive(Clone, Copy)]
 pub struct Numbers {
     pub values: [u64; 512],
     pub count: usize,
 }
 
 // The numbers that stay, with the count of events listed so far.
-#[derive(Drop)]
+#[derive(Clone, Copy)]
 pub struct Released {
     pub numbers: Numbers,
     pub events: usize,

@@ -1,4 +1,6 @@
 // The unacked messages: records by rising number in an array, their bodies packed in the outbound store that the caller lends.
+#![tactic(auto)]
+
 ghost use Rattle.std.specs.Prelude.{◌≡◌, Bool, true, false, ◌∷◌, [], ◌+◌, ◌*◌, ◌≤◌, ◌<◌, length, take, drop};
 ghost use Rattle.stores.specs.Placed.{placed};
 ghost use Rattle.rules.specs.Lists.{kept, if◌then◌else◌};
@@ -10,7 +12,7 @@ ghost use Rattle.outbox.specs.Steps.{Room, Appended, Left, Flagged, SentIf, Rele
 ghost use Rattle.outbox.specs.Sweeps.{Lowers};
 
 #[repr(C)]
-#[derive(Drop)]
+#[derive(Clone, Copy)]
 pub struct Unacked {
     pub number: u32,
     pub len: u32,
@@ -22,7 +24,7 @@ pub struct Unacked {
 
 // The number that the next message gets (`message_number`), and the records in use.
 #[repr(C)]
-#[derive(Drop)]
+#[derive(Clone, Copy)]
 pub struct Outbox {
     pub next: u64,
     pub records: [Unacked; 256],
@@ -30,14 +32,14 @@ pub struct Outbox {
 }
 
 // The outbox with the count of events listed so far.
-#[derive(Drop)]
+#[derive(Clone, Copy)]
 pub struct Released {
     pub outbox: Outbox,
     pub events: usize,
 }
 
 // Where a body lies in the outbound store.
-#[derive(Drop)]
+#[derive(Clone, Copy)]
 pub enum Place {
     At { start: usize, len: usize },
     Nowhere,

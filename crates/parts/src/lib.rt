@@ -1,5 +1,7 @@
 // A session as C lends it: 64-bit words, 32-bit halves, bytes, and the time of the last replay. Each number lies in the part of its width, at the index
 // that is named here; include/link.h and specs/Parts.antt repeat the indices.
+#![tactic(auto)]
+
 ghost use Rattle.std.specs.Prelude.{◌≡◌, length};
 
 // ---- words
@@ -93,7 +95,7 @@ pub type Bytes = [u8; 4936];
 // ---- what is made of them
 
 // What coordination.rs decides by, as numbers.
-#[derive(Drop)]
+#[derive(Clone, Copy)]
 pub struct StageCodes {
     // the terms of a setup that waits
     pub terms: u32,
@@ -109,7 +111,7 @@ pub struct StageCodes {
 // A call's answer: refusal is 0 where there is none; kind 0 done, 1 a number, 2 a flag, 3 a commit record (generation, outbound, remote), 4 a held body
 // (start, length), 5 not held, 6 refused; then its values, 0 where it has none.
 #[repr(C)]
-#[derive(Drop)]
+#[derive(Clone, Copy)]
 pub struct LinkAnswer {
     pub refusal: u64,
     pub kind: u64,

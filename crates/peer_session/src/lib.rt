@@ -1,5 +1,7 @@
 // The Rust's `SessionState` (peer_session.rs, coordination.rs), by value. The bodies of its unacked messages and of its queued frames lie in the two
 // stores that the caller lends.
+#![tactic(auto)]
+
 ghost use Rattle.std.specs.Prelude.{◌≡◌, [], length};
 ghost use Rattle.numbers.specs.Seats.{Holds};
 ghost use Rattle.rules.specs.Lists.{if◌then◌else◌};
@@ -18,7 +20,7 @@ use queue::{Queue, Queued};
 use rules::{Clock, Policy, ReceiveMode, Refusal, Setup};
 
 // What coordination.rs decides by.
-#[derive(Drop)]
+#[derive(Clone, Copy)]
 pub struct Stage {
     pub disposition: u8,
     pub setup: Setup,
@@ -28,7 +30,7 @@ pub struct Stage {
 
 // The Rust's `Option<TerminalHandoff>`: one that is not present is none, whatever its other fields.
 #[repr(C)]
-#[derive(Drop)]
+#[derive(Clone, Copy)]
 pub struct TerminalHandoff {
     pub body: [u8; 4096],
     pub len: usize,
@@ -41,13 +43,13 @@ pub struct TerminalHandoff {
 
 // The body of a rejection, 1 to 64 bytes.
 #[repr(C)]
-#[derive(Drop)]
+#[derive(Clone, Copy)]
 pub struct RejectBody {
     pub bytes: [u8; 64],
     pub len: usize,
 }
 
-#[derive(Drop)]
+#[derive(Clone, Copy)]
 pub struct SessionState {
     pub outbox: Outbox,
     // the number delivered last, and the one that a commit released last
@@ -207,7 +209,7 @@ pub fn no_handoff() -> TerminalHandoff
 // ---- sending
 
 // The outbox, with the refusal that left it as it was.
-#[derive(Drop)]
+#[derive(Clone, Copy)]
 pub struct Allocated {
     pub outbox: Outbox,
     pub stop: Stop,

@@ -1,4 +1,6 @@
 // The frames that came too early: records by rising number in an array, their bodies packed in the queue store that the caller lends.
+#![tactic(auto)]
+
 ghost use Rattle.std.specs.Prelude.{◌≡◌, [], ◌+◌, ◌-◌, ◌≤◌, ◌<◌, length, take, drop};
 ghost use Rattle.stores.specs.Placed.{placed};
 ghost use Rattle.rules.specs.Lists.{Bytes, any, put, total};
@@ -10,7 +12,7 @@ ghost use Rattle.queue.specs.Steps.{arrived, Leads, Room, Enters, with_at};
 use rules::Policy;
 
 #[repr(C)]
-#[derive(Drop)]
+#[derive(Clone, Copy)]
 pub struct Queued {
     pub number: u64,
     pub len: u32,
@@ -18,7 +20,7 @@ pub struct Queued {
 }
 
 #[repr(C)]
-#[derive(Drop)]
+#[derive(Clone, Copy)]
 pub struct Queue {
     pub records: [Queued; 256],
     pub count: usize,

@@ -1,4 +1,6 @@
 // The Rust's `receive_data` (session.rs), with what it does of the state.
+#![tactic(auto)]
+
 ghost use Rattle.std.specs.Prelude.{◌≡◌, true, false, ◌≤◌, ◌<◌, length};
 ghost use Rattle.rules.specs.Calls.{gets_data};
 ghost use Rattle.numbers.specs.Seats.{ExactNumbers};
@@ -16,7 +18,7 @@ use rules::{Answer, HostStatus, ReceiveMode, Refusal};
 use session::Returned;
 
 // What becomes of data.
-#[derive(Drop)]
+#[derive(Clone, Copy)]
 pub enum Verdict {
     Refuse(Refusal),
     Fail(Refusal),

@@ -1,4 +1,6 @@
 // Replays: the Rust's `connectivity` (session.rs, peer_session.rs).
+#![tactic(auto)]
+
 ghost use Rattle.std.specs.Prelude.{◌≡◌, not, ◌&&◌, ◌≤◌, length};
 ghost use Rattle.rules.specs.Calls.{connects};
 ghost use Rattle.rules.specs.Clock.{held_back};

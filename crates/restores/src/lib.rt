@@ -1,4 +1,6 @@
 // A session restored from a record, and a terminal handoff with it: the Rust's `restore` (session.rs) and `restore_terminal` (peer_session.rs).
+#![tactic(auto)]
+
 ghost use Rattle.std.specs.Prelude.{◌≡◌, not, ◌&&◌, ◌≤◌, length, take, eqb};
 ghost use Rattle.rules.specs.Start.{handoff_size, same_handoff, agrees};
 ghost use Rattle.rules.specs.Buffers.{repacked};
@@ -13,7 +15,7 @@ use starts::Reliable;
 
 // The Rust's `Option<TerminalHandoff>` but for its body, which comes as a lent slice: one that is not present is none, whatever its other fields.
 #[repr(C)]
-#[derive(Drop)]
+#[derive(Clone, Copy)]
 pub struct Handoff {
     pub present: bool,
     pub id: u64,

@@ -1,4 +1,6 @@
 // What the scripts print in common: fields, lines that are no call, answers, and the words of an event.
+#![tactic(auto)]
+
 ghost use Rattle.std.specs.Prelude.{◌+◌, ◌≤◌};
 
 use rules::PreparedCommit;

@@ -1,4 +1,6 @@
 // Sending: the Rust's `send_message` (session.rs).
+#![tactic(auto)]
+
 ghost use Rattle.rules.specs.Calls.{sends};
 ghost use Rattle.session.specs.Promise.{CalledWithOutbound};
 

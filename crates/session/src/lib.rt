@@ -1,5 +1,7 @@
 // The Rust's `Session` driver (session.rs), for a session without a channel. The exported calls are those of the crates above and the queries here; none
 // asks anything of its caller.
+#![tactic(auto)]
+
 ghost use Rattle.std.specs.Prelude.{◌≡◌, Bool, true, false};
 ghost use Rattle.rules.specs.Clock.{dirty};
 ghost use Rattle.rules.specs.Lists.{Bytes};
@@ -12,7 +14,7 @@ use peer_session::SessionState;
 use rules::{Answer, Refusal, Setup, Terms};
 
 // What a call hands back: the session, the answer, and how many events it listed.
-#[derive(Drop)]
+#[derive(Clone, Copy)]
 pub struct Returned {
     pub session: SessionState,
     pub answer: Answer,
@@ -20,14 +22,14 @@ pub struct Returned {
 }
 
 // The same of a call that leaves the session as it is.
-#[derive(Drop)]
+#[derive(Clone, Copy)]
 pub struct Told {
     pub answer: Answer,
     pub events: usize,
 }
 
 // The Rust's `Result` of `channel_terms`.
-#[derive(Drop)]
+#[derive(Clone, Copy)]
 pub enum ChannelTerms {
     Waiting(Terms),
     NotWaiting,

@@ -1,4 +1,6 @@
 // Setting a session up: the Rust's `accept_session`, `reject_session`, `prepare_channel` and `retire` (session.rs, coordination.rs).
+#![tactic(auto)]
+
 ghost use Rattle.std.specs.Prelude.{◌≡◌, Bool, ◌&&◌, List, ℕ, ◌≤◌, length, eqb};
 ghost use Rattle.rules.specs.Calls.{accepts, rejects, prepares_channel, retires};
 ghost use Rattle.rules.specs.Setup.{is_none};
@@ -15,7 +17,7 @@ use session::Returned;
 // ---- steps
 
 // The session, with the refusal that left it as it was.
-#[derive(Drop)]
+#[derive(Clone, Copy)]
 pub struct Joined {
     pub session: SessionState,
     pub stop: Stop,

@@ -1,4 +1,6 @@
 // Starting a session from a record: the Rust's `Session::new` with document 01's checks of the record.
+#![tactic(auto)]
+
 ghost use Rattle.std.specs.Prelude.{◌≡◌, false, ◌&&◌, ◌≤◌, length, take, leb};
 ghost use Rattle.rules.specs.Lists.{total, itself, all, rising};
 ghost use Rattle.rules.specs.Start.{good_policy, good_reject, start};
@@ -15,7 +17,7 @@ use session::Returned;
 
 // The Rust's `ReliableState` but for its messages, which come as lent slices.
 #[repr(C)]
-#[derive(Drop)]
+#[derive(Clone, Copy)]
 pub struct Reliable {
     pub message_number: u64,
     pub remote_number: u64,
@@ -23,7 +25,7 @@ pub struct Reliable {
 }
 
 // What the checks of a start find.
-#[derive(Drop)]
+#[derive(Clone, Copy)]
 pub enum Verdict {
     Good,
     Refused(Refusal),
@@ -301,7 +303,7 @@ pub fn start(
 // ---- link classes
 
 // The policy of a class, if it is one of the four.
-#[derive(Drop)]
+#[derive(Clone, Copy)]
 pub enum LinkClass {
     Known(Policy),
     Unknown,

@@ -1,4 +1,6 @@
 // Text: the fields of a line, the numbers and bytes in them, a line that is gathered from parts of the input, and text put into a lent buffer.
+#![tactic(auto)]
+
 ghost use Rattle.std.specs.Prelude.{◌≡◌, true, [], ◌∷◌, ◌+◌, ◌-◌, ◌*◌, ◌≤◌, ◌<◌, length, take, drop};
 ghost use Rattle.rules.specs.Lists.{all};
 ghost use Rattle.stores.specs.Placed.{placed};
@@ -9,33 +11,33 @@ ghost use Rattle.text.specs.Numbers.{digit_of, is_digit_byte, onward, number_of,
 ghost use Rattle.text.specs.Output.{glyph_of, hex_byte, Put};
 ghost use Rattle.text.specs.Taken.{taken_of, after};
 
-#[derive(Drop)]
+#[derive(Clone, Copy)]
 pub enum Number {
     Value(u64),
     Wrong,
 }
 
-#[derive(Drop)]
+#[derive(Clone, Copy)]
 pub enum Bytes {
     Count(usize),
     Wrong,
 }
 
 // A field's number or bytes, and the index where the field ends: that of a space, or the line's length after the last field.
-#[derive(Drop)]
+#[derive(Clone, Copy)]
 pub enum Taken {
     Value(u64, usize),
     Wrong,
 }
 
-#[derive(Drop)]
+#[derive(Clone, Copy)]
 pub enum Filled {
     Count(usize, usize),
     Wrong,
 }
 
 // A line so far: its size, or one more than its buffer's where it is too long; whether the line is whole; and the index where the chunk goes on.
-#[derive(Drop)]
+#[derive(Clone, Copy)]
 pub struct Piece {
     pub size: usize,
     pub next: usize,

@@ -1,10 +1,12 @@
 // Prints what it reads of each line: `d NUMBER`, `x HEX16`, `h HEX`, `p NUMBER HEX`, and for any other line `? ` and its number from 1.
+#![tactic(auto)]
+
 ghost use Rattle.std.specs.Prelude.{◌<◌, ◌≤◌};
 
 use text::{Filled, Taken};
 
 // What a line says; a body lies in the buffer for it.
-#[derive(Drop)]
+#[derive(Clone, Copy)]
 enum Line {
     Decimal(u64),
     Bits(u64),
@@ -14,7 +16,7 @@ enum Line {
 }
 
 // The number of the next line, and how much of the output buffer is used.
-#[derive(Drop)]
+#[derive(Clone, Copy)]
 struct Place {
     number: u64,
     used: usize,

@@ -1,0 +1,17 @@
+use Prim.Native.Nat.{◌-◌, ◌≤◌}
+use mathlib.Core.Path.{refl}
+use native.Mathlib.Omega.{arith}
+use lib.ListN.{replicate}
+use Rattle.queue.proofs.Changes.{start-within, dropped}
+use Rattle.queue.proofs.drop_front.Goals as goal
+
+pub overflow_sub-n : goal.overflow_sub-n
+overflow_sub-n c = let within : c.start-from.result ≤ c.used-end.result = omega (arith, c.used-end.ensures, c.start-from.ensures, start-within c.args.q c.args.k) in omega (arith, within)
+
+pub move_down-requires : goal.move_down-requires
+move_down-requires c = let within : c.start-from.result ≤ c.used-end.result = omega (arith, c.used-end.ensures, c.start-from.ensures, start-within c.args.q c.args.k) in omega (arith, within, c.used-end.ensures, c.requires.1.small, c.requires.1.room)
+
+pub returns : goal.returns
+returns c =
+    dropped c.args.q c.args.store.now c.args.k c.requires.0 c.requires.1 c.start-from.result c.used-end.result (c.used-end.result - c.start-from.result) c.start-from.ensures c.used-end.ensures refl
+    c.move_down.new.store c.clear.new.store c.lower-down.result (replicate (c.used-end.result - (c.used-end.result - c.start-from.result)) 0) c.move_down.ensures refl c.clear.ensures c.lower-down.ensures

@@ -1,0 +1,8 @@
+use Rattle.text.proofs.Output.{glyph_low, glyph_high}
+use Rattle.text.proofs.glyph.Goals as goal
+
+pub returns-then-d-lt10 : goal.returns-then-d-lt10
+returns-then-d-lt10 c = glyph_low _ c.if-d-lt10.true
+
+pub returns : goal.returns
+returns c = glyph_high _ c.if-d-lt10.false
