@@ -1,0 +1,10 @@
+use Rattle.std.proofs.Common.{Bool, not, T, sym, ◌∙◌, subst, le-ltb}
+use lib.Ieee.{binary64}
+use lib.Ieee.Bits.{nan_bits_above}
+use Rattle.call_reading.proofs.patterns.float_of.Goals as goal
+
+pub float_from_bits-result : goal.float_from_bits-result
+float_from_bits-result c =
+    subst (λ (b : Bool). T (not b))
+    (sym (nan_bits_above binary64 c.args.n ∙ le-ltb _ _ c.if-n-le-INFINITY_PATTERN.true))
+    tt

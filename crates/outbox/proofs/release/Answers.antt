@@ -1,0 +1,45 @@
+use native.Mathlib.Omega.{arith}
+use mathlib.Core.Path.{◌≡◌, refl, ap, ◌∙◌}
+use Prim.Native.Nat.{◌+◌, ◌-◌, ◌≤◌}
+use lib.ListN.{length, get_or}
+use Rattle.rules.specs.Commits as R
+use Rattle.outbox.specs.declared.Unacked.{Unacked}
+use Rattle.outbox.specs.View.{blank_u}
+use Rattle.outbox.specs.Records.{releases_u, released_u}
+use Rattle.outbox.proofs.View.{SoundU, sound_facts}
+use Rattle.outbox.proofs.Flags.{flagging_none, flagging_at, flagging_more, release-flags}
+use Rattle.outbox.proofs.Listings.{listing_none, listing-next, listing-room, listing-fits}
+use Rattle.outbox.proofs.Commits.{released}
+use Rattle.outbox.proofs.release.Goals as goal
+
+pub loop-i-init : goal.loop-i-init
+loop-i-init c =
+    
+    let s : SoundU c.args.o = sound_facts c.args.o c.requires.0 in
+    let full : length c.args.o.records ≡ 256 = omega arith in
+    (refl, flagging_none (release-flags c.args.upto) c.args.o full s.few, listing_none (R.releases c.args.upto) c.args.o c.args.list.now c.args.n s full c.requires.1)
+
+pub send_if-m-requires : goal.send_if-m-requires
+send_if-m-requires c = listing-room c.loop-i.invariant.2 c.loop-i-test.true
+
+pub overflow_add-at : goal.overflow_add-at
+overflow_add-at c = let fits : let l = c.loop-i in l.at + (get_or l.r.records l.i blank_u).len ≤ 65536 = let l = c.loop-i in let e : get_or l.r.records l.i blank_u ≡ get_or c.args.o.records l.i blank_u = flagging_at (release-flags c.args.upto) l.invariant.1 c.loop-i-test.true in omega (arith, ap (λ (u : Unacked). u.len) e, listing-fits l.invariant.2 c.loop-i-test.true) in omega (arith, fits)
+
+pub loop-i-preserved : goal.loop-i-preserved
+loop-i-preserved c =
+    
+    let lt = c.loop-i-test.true in
+    let f = c.loop-i.invariant.1 in
+    let u = get_or c.loop-i.r.records c.loop-i.i blank_u in (
+      refl,
+      flagging_more (release-flags c.args.upto) f lt c.release_one-v.result (c.release_one-v.ensures ∙ ap (λ b. released_u b u) c.releases-goes.ensures),
+      listing-next c.loop-i.invariant.2 lt (releases_u c.args.upto) (λ v b. refl) u (flagging_at (release-flags c.args.upto) f lt) c.releases-goes.result
+          c.releases-goes.ensures c.send_if-m.new.list c.send_if-m.result c.send_if-m.auto.list c.send_if-m.ensures,
+    )
+
+pub shape_of-list : goal.shape_of-list
+shape_of-list c = c.loop-i.invariant.2.same
+
+pub returns : goal.returns
+returns c =
+    released c.args.upto c.loop-i.r c.loop-i.invariant.1 c.loop-i.invariant.2 c.loop-i-test.false
