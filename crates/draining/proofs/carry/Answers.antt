@@ -1,0 +1,17 @@
+use Rattle.draining.proofs.Carried.{draining, finishing, abandoning, carries-on, carries_not}
+use Rattle.draining.proofs.carry.Goals as goal
+
+pub drain-d-requires : goal.drain-d-requires
+drain-d-requires c = draining c.before.requires
+
+pub abandon-requires : goal.abandon-requires
+abandon-requires c = abandoning c.before.requires c.drain-d.ensures c.drain-d.auto.list
+
+pub finish-r-requires : goal.finish-r-requires
+finish-r-requires c = finishing c.before.requires c.drain-d.ensures
+
+pub returns-in-By : goal.returns-in-By
+returns-in-By c = carries_not c.before.requires c.drain-d.ensures c.in-By.x c.in-By.is c.abandon.ensures
+
+pub returns-in-No : goal.returns-in-No
+returns-in-No c = carries-on c.before.requires c.drain-d.ensures c.in-No.is c.finish-r.ensures
