@@ -1,11 +1,10 @@
-use borrow.Author.Tests.{not-true, not-false}
 use Rattle.acks.proofs.handoff_acknowledged.Goals as goal
 
 pub returns-then-before : goal.returns-then-before
 returns-then-before c = rw c.if-before.true
 
 pub returns-then-not-sent : goal.returns-then-not-sent
-returns-then-not-sent c = rw (c.if-before.false, not-true c.args.sent c.if-not-sent.true)
+returns-then-not-sent c = rw (c.if-before.false, c.if-not-sent.true)
 
 pub returns : goal.returns
-returns c = rw (c.if-before.false, not-false c.args.sent c.if-not-sent.false)
+returns c = rw (c.if-before.false, c.if-not-sent.false)

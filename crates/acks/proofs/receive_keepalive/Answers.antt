@@ -14,4 +14,4 @@ pub list_all-n-requires : goal.list_all-n-requires
 list_all-n-requires c = ((parts c.args.s (sym c.sound.ensures.is ∙ c.if-not-sound.false) c.sound.ensures.full).retry.few, omega (arith, c.if-list-lt-EVENT_WORDS.false, (parts c.args.s (sym c.sound.ensures.is ∙ c.if-not-sound.false) c.sound.ensures.full).retry.few))
 
 pub returns : goal.returns
-returns c = told c.args.s c.args.list.now c.if-list-lt-EVENT_WORDS.false (sym c.sound.ensures.is ∙ c.if-not-sound.false) c.sound.ensures.full c.emit.ensures c.list_all-n.ensures.0
+returns c = told c.args.s c.args.list.now c.if-list-lt-EVENT_WORDS.false (sym c.sound.ensures.is ∙ c.if-not-sound.false) c.sound.ensures.full c.emit.ensures c.list_all-n.ensures.listed

@@ -9,4 +9,4 @@ pub returns-then-not-rise_below : goal.returns-then-not-rise_below
 returns-then-not-rise_below c = unordered _ _ _ (sym c.rise_below.ensures ∙ c.if-not-rise_below.true)
 
 pub returns : goal.returns
-returns c = by_size _ _ _ c.if-count-gt-MAX_UNACKED.false (sym c.rise_below.ensures ∙ c.if-not-rise_below.false) c.fits2.ensures
+returns c = by_size _ _ _ c.if-count-gt-MAX_UNACKED.false (sym c.rise_below.ensures ∙ c.if-not-rise_below.false) c.fits.ensures

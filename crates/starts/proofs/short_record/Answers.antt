@@ -10,4 +10,4 @@ returns-then-lengths-count c =
 pub returns : goal.returns
 returns c =
     
-    by_bytes c.args.numbers.now c.args.lengths.now c.args.bodies.now c.if-lengths-count.false c.fits2.ensures
+    by_bytes c.args.numbers.now c.args.lengths.now c.args.bodies.now c.if-lengths-count.false c.fits.ensures

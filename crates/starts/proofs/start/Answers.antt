@@ -10,11 +10,6 @@ use Rattle.starts.proofs.Checks.{Good, found-good, good_beginning}
 use Rattle.starts.proofs.Begins.{outbound-short, queue-short, record_refused, record_started}
 use Rattle.starts.proofs.start.Goals as goal
 
-abbrev good-at : tie.Start → Type 0
-good-at a =
-    Good (short_record a.args.numbers.now a.args.lengths.now a.args.bodies.now)
-    (reliable_of a.args.«record» a.args.numbers.now a.args.lengths.now a.args.bodies.now) a.args.policy a.args.reject.now
-
 pub returns-then-outbound-lt-OUTBOUND_BYTES : goal.returns-then-outbound-lt-OUTBOUND_BYTES
 returns-then-outbound-lt-OUTBOUND_BYTES c = outbound-short _ _ _ _ _ _ _ _ _ c.if-outbound-lt-OUTBOUND_BYTES.true c.refused.ensures
 
@@ -27,13 +22,13 @@ returns-in-Refused c =
     c.refused-in-Refused.ensures
 
 pub begun-session-requires : goal.begun-session-requires
-begun-session-requires c = let good : good-at c = found-good _ _ _ _ (sym c.judge-found.ensures ∙ c.in_default.is) in let beginning : let a = c.args in Beginning a.«record» a.numbers.now a.lengths.now a.reject.now = good_beginning _ _ _ _ _ _ (good) in beginning
+begun-session-requires c = let good-at : Type 0 = Good (short_record c.args.numbers.now c.args.lengths.now c.args.bodies.now) (reliable_of c.args.«record» c.args.numbers.now c.args.lengths.now c.args.bodies.now) c.args.policy c.args.reject.now in let good : good-at = found-good _ _ _ _ (sym c.judge-found.ensures ∙ c.in_default.is) in let beginning : let a = c.args in Beginning a.«record» a.numbers.now a.lengths.now a.reject.now = good_beginning _ _ _ _ _ _ (good) in beginning
 
 pub body_bytes-n-requires : goal.body_bytes-n-requires
-body_bytes-n-requires c = let good : good-at c = found-good _ _ _ _ (sym c.judge-found.ensures ∙ c.in_default.is) in let beginning : let a = c.args in Beginning a.«record» a.numbers.now a.lengths.now a.reject.now = good_beginning _ _ _ _ _ _ (good) in ((beginning).fitting.enough, (beginning).fitting.small)
+body_bytes-n-requires c = let good-at : Type 0 = Good (short_record c.args.numbers.now c.args.lengths.now c.args.bodies.now) (reliable_of c.args.«record» c.args.numbers.now c.args.lengths.now c.args.bodies.now) c.args.policy c.args.reject.now in let good : good-at = found-good _ _ _ _ (sym c.judge-found.ensures ∙ c.in_default.is) in let beginning : let a = c.args in Beginning a.«record» a.numbers.now a.lengths.now a.reject.now = good_beginning _ _ _ _ _ _ (good) in ((beginning).fitting.enough, (beginning).fitting.small)
 
 pub fill-requires : goal.fill-requires
-fill-requires c = let good : good-at c = found-good _ _ _ _ (sym c.judge-found.ensures ∙ c.in_default.is) in let beginning : let a = c.args in Beginning a.«record» a.numbers.now a.lengths.now a.reject.now = good_beginning _ _ _ _ _ _ (good) in
+fill-requires c = let good-at : Type 0 = Good (short_record c.args.numbers.now c.args.lengths.now c.args.bodies.now) (reliable_of c.args.«record» c.args.numbers.now c.args.lengths.now c.args.bodies.now) c.args.policy c.args.reject.now in let good : good-at = found-good _ _ _ _ (sym c.judge-found.ensures ∙ c.in_default.is) in let beginning : let a = c.args in Beginning a.«record» a.numbers.now a.lengths.now a.reject.now = good_beginning _ _ _ _ _ _ (good) in
    
     
     
@@ -41,7 +36,7 @@ fill-requires c = let good : good-at c = found-good _ _ _ _ (sym c.judge-found.e
     (omega (arith, c.body_bytes-n.ensures, l.bytes), omega (arith, c.body_bytes-n.ensures, (beginning).fitting.small, c.if-outbound-lt-OUTBOUND_BYTES.false))
 
 pub returns : goal.returns
-returns c = let good : good-at c = found-good _ _ _ _ (sym c.judge-found.ensures ∙ c.in_default.is) in
+returns c = let good-at : Type 0 = Good (short_record c.args.numbers.now c.args.lengths.now c.args.bodies.now) (reliable_of c.args.«record» c.args.numbers.now c.args.lengths.now c.args.bodies.now) c.args.policy c.args.reject.now in let good : good-at = found-good _ _ _ _ (sym c.judge-found.ensures ∙ c.in_default.is) in
    
     
     record_started _ _ _ _ _ _ _ _ c.if-outbound-lt-OUTBOUND_BYTES.false c.if-queue-lt-QUEUE_BYTES.false c.begun-session.result _ _ (good) c.begun-session.ensures
