@@ -3,6 +3,7 @@ use mathlib.Core.Logic.{⊎_elim}
 use native.Mathlib.Omega.{arith}
 use Rattle.replays.proofs.Connects.{list-short, unknown, code_below, code-above}
 use Rattle.replays.proofs.connectivity.Goals as goal
+use Rattle.replays.proofs.connectivity.Goals.{in_default-via-then-event-lt1, in_default-via-else-event-lt1+else-event-lt4+else-event-lt6}
 
 pub returns-then-list-lt-EVENT_WORDS : goal.returns-then-list-lt-EVENT_WORDS
 returns-then-list-lt-EVENT_WORDS c =
@@ -21,4 +22,7 @@ pub returns-in_default : goal.returns-in_default
 returns-in_default c =
     
     unknown c.args.event c.args.time c.args.force c.args.s c.args.list.now c.if-list-lt-EVENT_WORDS.false c.refused-in_default.ensures
-    (⊎_elim (λ w. code_below c.args.event c.args.time c.args.force w.taken) (λ w. code-above c.args.event c.args.time c.args.force w.2.left) c.in_default.branch)
+    (elim c.in_default.branch [
+      in_default-via-then-event-lt1 w ↦ code_below c.args.event c.args.time c.args.force (omega arith)
+      | in_default-via-else-event-lt1+else-event-lt4+else-event-lt6 w ↦ code-above c.args.event c.args.time c.args.force (omega arith)
+    ])
