@@ -1,0 +1,21 @@
+use Prim.Native.Nat.{◌-◌}
+use mathlib.Core.Path.{refl}
+use native.Mathlib.Omega.{arith}
+use Rattle.link_queue.proofs.Finds.{counted_none, counted_more, counted_all}
+use Rattle.link_queue.proofs.find.Goals as goal
+
+pub loop-i-init : goal.loop-i-init
+loop-i-init c = (refl, c.requires, omega arith, counted_none _ _)
+
+pub overflow_add-sum : goal.overflow_add-sum
+overflow_add-sum c = omega (arith, c.loop-i.invariant.3.few, c.same_of-sum.ensures.1)
+
+pub loop-i-preserved : goal.loop-i-preserved
+loop-i-preserved c =
+    let l = c.loop-i in
+    (l.invariant.0, l.invariant.1, omega arith, counted_more _ _ _ _ _ l.invariant.3 c.same_of-sum.ensures.0 c.same_of-sum.ensures.1)
+
+pub returns : goal.returns
+returns c =
+    let l = c.loop-i in
+    counted_all _ _ _ _ l.invariant.3 l.invariant.2 c.loop-i-test.false l.invariant.1
