@@ -1,0 +1,11 @@
+use mathlib.Core.Path.{sym, ap}
+use mathlib.Core.Bool.{Bool}
+use Prim.Native.Nat.{◌+◌}
+use Rattle.rules.specs.Lists.{if◌then◌else◌}
+use Rattle.link_outbox.proofs.count_if.Goals as goal
+
+pub returns-then-stays : goal.returns-then-stays
+returns-then-stays c = sym (ap (λ (t : Bool). if t then c.args.n + 1 else c.args.n) c.if-stays.true)
+
+pub returns : goal.returns
+returns c = sym (ap (λ (t : Bool). if t then c.args.n + 1 else c.args.n) c.if-stays.false)

@@ -1,0 +1,27 @@
+use native.Mathlib.Omega.{arith}
+use Prim.Native.Nat.{◌-◌}
+use Rattle.parts.specs.Parts.{at, unacked_at}
+use Rattle.link_outbox.proofs.Sounds.{falls_more, falls-end, fall-few}
+use Rattle.link_outbox.proofs.falls_of.Goals as goal
+
+pub loop-i-init : goal.loop-i-init
+loop-i-init c = (omega arith, omega arith, omega arith, omega arith, λ b. omega arith)
+
+pub overflow_add-sum : goal.overflow_add-sum
+overflow_add-sum c =
+    let l = c.loop-i in
+    omega (arith, c.fall_of-sum.ensures, fall-few (at c.args.halves.now (l.i - 1)) (at c.args.halves.now l.i))
+
+pub loop-i-preserved : goal.loop-i-preserved
+loop-i-preserved c =
+    let l = c.loop-i in
+    let a = c.args in (
+      omega arith,
+      omega arith,
+      omega arith,
+      omega (arith, c.fall_of-sum.ensures, fall-few (at a.halves.now (l.i - 1)) (at a.halves.now l.i)),
+      λ b. falls_more a.halves.now b l.i a.count l.sum c.fall_of-sum.result _ l.invariant.0 c.loop-i-test.true c.fall_of-sum.ensures (l.invariant.4 b),
+    )
+
+pub returns : goal.returns
+returns c = λ b. omega (arith, c.loop-i.invariant.4 b, falls-end (unacked_at c.args.halves.now b) c.loop-i.i c.args.count (at c.args.halves.now (c.loop-i.i - 1)) c.loop-i-test.false)

@@ -1,0 +1,27 @@
+use native.Mathlib.Omega.{arith}
+use Prim.Native.Nat.{◌-◌}
+use Rattle.parts.specs.Parts.{unacked_at}
+use Rattle.outbox.specs.View.{len_u}
+use Rattle.link_outbox.proofs.Sounds.{total-seats, total-end}
+use Rattle.link_outbox.proofs.lens_of.Goals as goal
+
+pub loop-i-init : goal.loop-i-init
+loop-i-init c = (omega arith, omega arith, omega arith, λ b. omega arith)
+
+pub overflow_add-sum : goal.overflow_add-sum
+overflow_add-sum c =
+    let l = c.loop-i in
+    omega (arith, c.len_of-sum.ensures.0, c.len_of-sum.ensures.1)
+
+pub loop-i-preserved : goal.loop-i-preserved
+loop-i-preserved c =
+    let l = c.loop-i in
+    let a = c.args in (
+      omega arith,
+      omega arith,
+      omega (arith, c.len_of-sum.ensures.0, c.len_of-sum.ensures.1),
+      λ b. omega (arith, c.len_of-sum.ensures.0, c.len_of-sum.ensures.1, l.invariant.3 b, total-seats (unacked_at a.halves.now b) l.i a.count len_u c.loop-i-test.true l.invariant.0),
+    )
+
+pub returns : goal.returns
+returns c = λ b. omega (arith, c.loop-i.invariant.3 b, total-end (unacked_at c.args.halves.now b) c.loop-i.i c.args.count len_u c.loop-i-test.false)

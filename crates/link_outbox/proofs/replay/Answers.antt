@@ -1,0 +1,38 @@
+use mathlib.Core.Path.{refl}
+use Prim.Native.Nat.{◌-◌}
+use native.Mathlib.Omega.{arith}
+use Rattle.rules.specs.Replay.{not_pending}
+use Rattle.outbox.specs.Records.{not_pending_u}
+use Rattle.outbox.proofs.Listings.{listing-room}
+use Rattle.outbox.proofs.Commits.{replayed}
+use Rattle.link_outbox.proofs.Frees.{listing_start, listing-body, listing-turn}
+use Rattle.link_outbox.proofs.replay.Goals as goal
+
+pub loop-i-init : goal.loop-i-init
+loop-i-init c =
+    let a = c.args in
+    (refl, listing_start a.words.now a.halves.now a.bytes.now not_pending a.list.now a.n c.requires.0 c.requires.1)
+
+pub send_if-m-requires : goal.send_if-m-requires
+send_if-m-requires c = listing-room c.loop-i.invariant.1 c.loop-i-test.true
+
+pub overflow_add-from : goal.overflow_add-from
+overflow_add-from c =
+    let a = c.args in
+    omega (arith, c.size-from.ensures, listing-body a.words.now a.halves.now a.bytes.now c.loop-i.invariant.1 c.loop-i-test.true)
+
+pub loop-i-preserved : goal.loop-i-preserved
+loop-i-preserved c =
+    let a = c.args in
+    let l = c.loop-i in
+    let lt = c.loop-i-test.true in (
+      refl,
+      listing-turn a.words.now a.halves.now a.bytes.now l.invariant.1 lt not_pending_u (λ u s. refl) a.bytes.now refl c.is_clear-goes.result
+          c.is_clear-goes.ensures c.send_if-m.new.list c.send_if-m.result c.send_if-m.auto.list c.send_if-m.ensures c.size-from.result c.size-from.ensures,
+    )
+
+pub shape_of-list : goal.shape_of-list
+shape_of-list c = c.loop-i.invariant.1.same
+
+pub returns : goal.returns
+returns c = replayed c.loop-i.invariant.1 c.loop-i-test.false
