@@ -1,0 +1,14 @@
+use Rattle.link_starts.proofs.Starts.{short-outbound, short-queue, not_good, is-good}
+use Rattle.link_starts.proofs.judge.Goals as goal
+
+pub returns-then-outbound-lt-OUTBOUND_BYTES : goal.returns-then-outbound-lt-OUTBOUND_BYTES
+returns-then-outbound-lt-OUTBOUND_BYTES c = short-outbound c.args.«record» c.args.numbers.now c.args.lengths.now c.args.bodies.now c.args.policy c.args.reject.now c.if-outbound-lt-OUTBOUND_BYTES.true
+
+pub returns-then-queue-lt-QUEUE_BYTES : goal.returns-then-queue-lt-QUEUE_BYTES
+returns-then-queue-lt-QUEUE_BYTES c = short-queue c.args.«record» c.args.numbers.now c.args.lengths.now c.args.bodies.now c.args.policy c.args.reject.now c.if-outbound-lt-OUTBOUND_BYTES.false c.if-queue-lt-QUEUE_BYTES.true
+
+pub returns-in-Refused : goal.returns-in-Refused
+returns-in-Refused c = not_good c.args.«record» c.args.numbers.now c.args.lengths.now c.args.bodies.now c.args.policy c.args.reject.now c.if-outbound-lt-OUTBOUND_BYTES.false c.if-queue-lt-QUEUE_BYTES.false c.judge-found.ensures _ c.in-Refused.is
+
+pub returns-in-Good : goal.returns-in-Good
+returns-in-Good c = is-good c.args.«record» c.args.numbers.now c.args.lengths.now c.args.bodies.now c.args.policy c.args.reject.now c.if-outbound-lt-OUTBOUND_BYTES.false c.if-queue-lt-QUEUE_BYTES.false c.judge-found.ensures c.in-Good.is
