@@ -1,0 +1,28 @@
+use native.Mathlib.Omega.{arith}
+use mathlib.Core.Path.{sym}
+use lib.Seq.{length-take-le}
+use Rattle.link_sound.proofs.Parts.{usable}
+use Rattle.link_setup.proofs.Joins.{low_half}
+use Rattle.link_setup.proofs.Rejects.{body-within, went, stopped}
+use Rattle.link_setup.proofs.send_reject.Goals as goal
+
+pub slice_bounds-body-end : goal.slice_bounds-body-end
+slice_bounds-body-end c = body-within c.args.words.now c.args.halves.now c.args.bytes.now c.args.clock.now c.args.outbound.now c.requires c.reject_in-j.result c.reject_in-j.ensures
+
+pub slice_bounds-allocate-end : goal.slice_bounds-allocate-end
+slice_bounds-allocate-end c = sym (length-take-le c.reject_in-j.result.len c.reject_in-j.result.bytes (body-within c.args.words.now c.args.halves.now c.args.bytes.now c.args.clock.now c.args.outbound.now c.requires c.reject_in-j.result c.reject_in-j.ensures))
+
+pub allocate-stop-requires : goal.allocate-stop-requires
+allocate-stop-requires c = (usable c.args.words.now c.args.halves.now c.args.bytes.now c.args.clock.now c.requires.checked).unacked c.args.outbound.now c.requires.outbound
+
+pub overflow_add-halves : goal.overflow_add-halves
+overflow_add-halves c = omega (arith, low_half c.args.words.now c.args.halves.now c.args.bytes.now c.args.clock.now c.requires.checked c.requires.low)
+
+pub request-n-requires : goal.request-n-requires
+request-n-requires c = omega (arith, c.requires.list)
+
+pub returns-in-By : goal.returns-in-By
+returns-in-By c = stopped c.args.words.now c.args.halves.now c.args.bytes.now c.args.clock.now c.args.list.now c.args.outbound.now c.requires c.reject_in-j.result c.reject_in-j.ensures _ c.allocate-stop.ensures c.in-By.is c.refusal.ensures
+
+pub returns-in-No : goal.returns-in-No
+returns-in-No c = went c.args.words.now c.args.halves.now c.args.bytes.now c.args.clock.now c.args.list.now c.args.outbound.now c.requires c.full_halves.ensures c.reject_in-j.result c.reject_in-j.ensures c.allocate-stop.ensures c.in-No.is c.clock_in-k.result c.clock_in-k.ensures c.request-n.new.list c.request-n.result c.request-n.ensures c.plain.ensures
