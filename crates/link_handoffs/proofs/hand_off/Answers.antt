@@ -1,0 +1,22 @@
+use Rattle.link_handoffs.proofs.Commands.{exact_in, low_in}
+use Rattle.link_handoffs.proofs.Steps.{stopped, went}
+use native.Mathlib.Omega.{arith}
+use Rattle.link_handoffs.proofs.hand_off.Goals as goal
+
+pub allocate-stop-requires : goal.allocate-stop-requires
+allocate-stop-requires c = exact_in c.args.words.now c.args.halves.now c.args.bytes.now c.args.clock.now c.args.outbound.now c.requires.0
+
+pub overflow_add-halves : goal.overflow_add-halves
+overflow_add-halves c = omega (arith, low_in c.args.words.now c.args.halves.now c.args.bytes.now c.args.clock.now c.args.outbound.now c.requires.0)
+
+pub hand-requires : goal.hand-requires
+hand-requires c = c.requires.2
+
+pub done-requires : goal.done-requires
+done-requires c = omega (arith, c.requires.0.list)
+
+pub returns-in-By : goal.returns-in-By
+returns-in-By c = stopped c.args.words.now c.args.halves.now c.args.bytes.now c.args.clock.now c.args.list.now c.args.outbound.now c.args.body.now c.args.id c.requires.0 c.requires.1 _ c.allocate-stop.ensures c.in-By.is c.refusal.ensures
+
+pub returns-in-No : goal.returns-in-No
+returns-in-No c = went c.args.words.now c.args.halves.now c.args.bytes.now c.args.clock.now c.args.list.now c.args.outbound.now c.args.body.now c.args.id c.requires.0 c.requires.1 c.full_halves.ensures c.allocate-stop.ensures c.in-No.is c.hand.ensures c.done.ensures
