@@ -6,6 +6,7 @@ ghost use Rattle.std.specs.Prelude.{◌≤◌};
 use call_reading::{Call, Line, Opening};
 use peer_session::SessionState;
 use rules::Answer;
+use std::io::{Stdin, Stdout};
 
 // The session, whether there is one, the number of the line, and how much of the output buffer is used.
 #[derive(Clone, Copy)]
@@ -41,11 +42,11 @@ fn next(t: Script, session: SessionState, used: usize) -> Script
     }
 }
 
-fn answer_wrong(out: &mut [u8; 65536], t: Script) -> Script
+fn answer_wrong(stdout: Stdout, out: &mut [u8; 65536], t: Script) -> Script
     requires { t.used ≤ 65536 }
     ensures { result.used ≤ 65536 }
 {
-    let n = scripts::print_wrong(out, t.used, t.number);
+    let n = scripts::print_wrong(stdout, out, t.used, t.number);
     next(t, t.session, n)
 }
 
@@ -65,6 +66,7 @@ fn answer_start(
     list: &[u64; 4096],
     outbound: &mut [u8; 65536],
     queue: &mut [u8; 32768],
+    stdout: Stdout,
     out: &mut [u8; 65536],
     t: Script,
 ) -> Script
@@ -73,7 +75,7 @@ fn answer_start(
 {
     let r = call_making::start(o, numbers, lengths, body, outbound, queue);
     let a = r.answer;
-    let n = call_printing::print_call(out, t.used, b"start", a, 0, list, body, outbound);
+    let n = call_printing::print_call(stdout, out, t.used, b"start", a, 0, list, body, outbound);
     if is_refused(a) {
         return next(t, t.session, n);
     }
@@ -82,14 +84,20 @@ fn answer_start(
     next(u, r.session, n)
 }
 
-fn answer_fetch(number: u64, outbound: &[u8; 65536], out: &mut [u8; 65536], t: Script) -> Script
+fn answer_fetch(
+    number: u64,
+    outbound: &[u8; 65536],
+    stdout: Stdout,
+    out: &mut [u8; 65536],
+    t: Script,
+) -> Script
     requires { t.used ≤ 65536 }
     ensures { result.used ≤ 65536 }
 {
     let s = t.session;
     let a = fetches::find(s, outbound, number);
     let body = fetches::fetch(s, outbound, number);
-    let n = call_printing::print_fetch(out, t.used, a, body);
+    let n = call_printing::print_fetch(stdout, out, t.used, a, body);
     next(t, s, n)
 }
 
@@ -103,6 +111,7 @@ fn answer_call(
     delivery: &mut [u8; 49152],
     outbound: &mut [u8; 65536],
     queue: &mut [u8; 32768],
+    stdout: Stdout,
     out: &mut [u8; 65536],
     t: Script,
 ) -> Script
@@ -110,27 +119,30 @@ fn answer_call(
     ensures { result.used ≤ 65536 }
 {
     if let Call::Fetch(number) = c {
-        return answer_fetch(number, outbound, out, t);
+        return answer_fetch(number, outbound, stdout, out, t);
     }
     let s = t.session;
     let r = call_making::call(
         c, s, numbers, lengths, body, list, delivery, outbound, queue,
     );
     let a = r.answer;
-    let n = call_printing::print_call(out, t.used, word, a, r.events, list, delivery, outbound);
+    let n = call_printing::print_call(
+        stdout, out, t.used, word, a, r.events, list, delivery, outbound,
+    );
     next(t, r.session, n)
 }
 
 fn answer_state(
     outbound: &[u8; 65536],
     queue: &[u8; 32768],
+    stdout: Stdout,
     out: &mut [u8; 65536],
     t: Script,
 ) -> Script
     requires { t.used ≤ 65536 }
     ensures { result.used ≤ 65536 }
 {
-    let n = call_printing::dumping::print_state(out, t.used, t.session, outbound, queue);
+    let n = call_printing::dumping::print_state(stdout, out, t.used, t.session, outbound, queue);
     next(t, t.session, n)
 }
 
@@ -161,6 +173,7 @@ fn answer_session(
     delivery: &mut [u8; 49152],
     outbound: &mut [u8; 65536],
     queue: &mut [u8; 32768],
+    stdout: Stdout,
     out: &mut [u8; 65536],
     t: Script,
 ) -> Script
@@ -168,15 +181,15 @@ fn answer_session(
     ensures { result.used ≤ 65536 }
 {
     if !t.started {
-        return answer_wrong(out, t);
+        return answer_wrong(stdout, out, t);
     }
     match l {
         Line::Call(c) => answer_call(
-            c, word, numbers, lengths, body, list, delivery, outbound, queue, out, t,
+            c, word, numbers, lengths, body, list, delivery, outbound, queue, stdout, out, t,
         ),
-        Line::State => answer_state(outbound, queue, out, t),
+        Line::State => answer_state(outbound, queue, stdout, out, t),
         Line::Generation(n) => set_generation(t, n),
-        _ => answer_wrong(out, t),
+        _ => answer_wrong(stdout, out, t),
     }
 }
 
@@ -190,6 +203,7 @@ fn answer(
     delivery: &mut [u8; 49152],
     outbound: &mut [u8; 65536],
     queue: &mut [u8; 32768],
+    stdout: Stdout,
     out: &mut [u8; 65536],
     t: Script,
 ) -> Script
@@ -198,16 +212,20 @@ fn answer(
 {
     let l = call_reading::read_line(line, size, numbers, lengths, body);
     if let Line::Start(o) = l {
-        return answer_start(o, numbers, lengths, body, list, outbound, queue, out, t);
+        return answer_start(
+            o, numbers, lengths, body, list, outbound, queue, stdout, out, t,
+        );
     }
     let word = word_of(line, size);
     answer_session(
-        l, word, numbers, lengths, body, list, delivery, outbound, queue, out, t,
+        l, word, numbers, lengths, body, list, delivery, outbound, queue, stdout, out, t,
     )
 }
 
 // Answers the lines of standard input, and returns how much of the output buffer is used.
 fn answer_input(
+    stdin: Stdin,
+    stdout: Stdout,
     chunk: &mut [u8; 65536],
     line: &mut [u8; 300000],
     numbers: &mut [u64; 257],
@@ -225,12 +243,13 @@ fn answer_input(
     let mut input = lines::no_input();
     let mut turns = u64::MAX;
     while turns > 0 {
-        input = lines::next_line(chunk, line, input);
+        input = lines::next_line(stdin, chunk, line, input);
         if !input.found {
             return t.used;
         }
         t = answer(
-            line, input.size, numbers, lengths, body, list, delivery, outbound, queue, out, t,
+            line, input.size, numbers, lengths, body, list, delivery, outbound, queue, stdout, out,
+            t,
         );
         turns -= 1;
     }
@@ -238,8 +257,8 @@ fn answer_input(
 }
 
 // Answers all of standard input.
-pub fn run() {
-    let mut chunk = io::large_buffer();
+pub fn run(stdin: Stdin, stdout: Stdout) {
+    let mut chunk = [0u8; 65536];
     let mut line = [0u8; 300000];
     let mut numbers = [0u64; 257];
     let mut lengths = [0u64; 257];
@@ -248,8 +267,10 @@ pub fn run() {
     let mut delivery = [0u8; 49152];
     let mut outbound = [0u8; 65536];
     let mut queue = [0u8; 32768];
-    let mut out = io::large_buffer();
+    let mut out = [0u8; 65536];
     let used = answer_input(
+        stdin,
+        stdout,
         &mut chunk,
         &mut line,
         &mut numbers,
@@ -261,5 +282,5 @@ pub fn run() {
         &mut queue,
         &mut out,
     );
-    lines::flush(&out, used);
+    lines::flush(stdout, &out, used);
 }

@@ -6,7 +6,7 @@ ghost use Rattle.std.specs.Prelude.{◌+◌, ◌≤◌, length};
 ghost use Rattle.text.specs.Output.{Put};
 ghost use Rattle.lines.specs.Numerals.{Decimals, hex16_text};
 
-use libc::{STDIN_FILENO, STDOUT_FILENO};
+use std::io::{Read, Stdin, Stdout, Write};
 
 // The digits of v, at most 20.
 pub fn put_decimal(out: &mut [u8], n: usize, v: u64) -> usize
@@ -29,11 +29,14 @@ pub fn put_hex16(out: &mut [u8], n: usize, v: u64) -> usize
 }
 
 // Reads some of the input, and returns how many bytes: 0 at its end, or where it cannot be read.
-pub fn read_some(chunk: &mut [u8; 65536]) -> usize
+pub fn read_some(stdin: Stdin, chunk: &mut [u8; 65536]) -> usize
     ensures { result ≤ 65536 }
 {
-    let got = libc::read(STDIN_FILENO, chunk);
-    io::count(got, chunk)
+    let mut input = stdin;
+    match input.read(chunk) {
+        Ok(got) => got,
+        Err(_) => 0,
+    }
 }
 
 // The input so far: the index where the chunk goes on, how much of the chunk is filled, and of the last line its size, which is one more than its
@@ -72,7 +75,7 @@ fn gather_on(chunk: &[u8; 65536], line: &mut [u8], i: Input) -> Input {
 }
 
 // Reads the next line. A last line that has no end counts.
-pub fn next_line(chunk: &mut [u8; 65536], line: &mut [u8], i: Input) -> Input {
+pub fn next_line(stdin: Stdin, chunk: &mut [u8; 65536], line: &mut [u8], i: Input) -> Input {
     let mut r = i;
     r.size = 0;
     r.found = false;
@@ -83,7 +86,7 @@ pub fn next_line(chunk: &mut [u8; 65536], line: &mut [u8], i: Input) -> Input {
             return r;
         }
         r.at = 0;
-        r.filled = read_some(chunk);
+        r.filled = read_some(stdin, chunk);
         if r.filled == 0 {
             r.found = 0 < r.size;
             return r;
@@ -93,88 +96,89 @@ pub fn next_line(chunk: &mut [u8; 65536], line: &mut [u8], i: Input) -> Input {
     r
 }
 
-fn write_front(out: &[u8], n: usize)
+fn write_front(stdout: Stdout, out: &[u8], n: usize)
     requires { n ≤ length out.now }
 {
-    io::write_all(STDOUT_FILENO, &out[..n]);
+    let mut output = stdout;
+    let _ = output.write_all(&out[..n]);
 }
 
 // Writes what out has up to index n.
-pub fn flush(out: &[u8; 65536], n: usize)
+pub fn flush(stdout: Stdout, out: &[u8; 65536], n: usize)
     requires { n ≤ 65536 }
 {
-    write_front(out, n);
+    write_front(stdout, out, n);
 }
 
 // Where k bytes can go: at n, or at 0 once out is written.
-fn room(out: &[u8; 65536], n: usize, k: usize) -> usize
+fn room(stdout: Stdout, out: &[u8; 65536], n: usize, k: usize) -> usize
     requires { (n ≤ 65536) × (k ≤ 65536) }
     ensures { result + k ≤ 65536 }
 {
     if n + k <= 65536 {
         return n;
     }
-    flush(out, n);
+    flush(stdout, out, n);
     0
 }
 
-pub fn print_byte(out: &mut [u8; 65536], n: usize, b: u8) -> usize
+pub fn print_byte(stdout: Stdout, out: &mut [u8; 65536], n: usize, b: u8) -> usize
     requires { n ≤ 65536 }
     ensures { result ≤ 65536 }
 {
-    let m = room(out, n, 1);
+    let m = room(stdout, out, n, 1);
     text::put_byte(out, m, b)
 }
 
-pub fn print_decimal(out: &mut [u8; 65536], n: usize, v: u64) -> usize
+pub fn print_decimal(stdout: Stdout, out: &mut [u8; 65536], n: usize, v: u64) -> usize
     requires { n ≤ 65536 }
     ensures { result ≤ 65536 }
 {
-    let m = room(out, n, 20);
+    let m = room(stdout, out, n, 20);
     put_decimal(out, m, v)
 }
 
-pub fn print_hex16(out: &mut [u8; 65536], n: usize, v: u64) -> usize
+pub fn print_hex16(stdout: Stdout, out: &mut [u8; 65536], n: usize, v: u64) -> usize
     requires { n ≤ 65536 }
     ensures { result ≤ 65536 }
 {
-    let m = room(out, n, 16);
+    let m = room(stdout, out, n, 16);
     put_hex16(out, m, v)
 }
 
-pub fn print_bytes(out: &mut [u8; 65536], n: usize, b: &[u8]) -> usize
+pub fn print_bytes(stdout: Stdout, out: &mut [u8; 65536], n: usize, b: &[u8]) -> usize
     requires { n ≤ 65536 }
     ensures { result ≤ 65536 }
 {
     let mut m = n;
     let mut i = 0;
     while i < b.len() {
-        m = print_byte(out, m, b[i]);
+        m = print_byte(stdout, out, m, b[i]);
         i += 1;
     }
     m
 }
 
-fn print_hex_byte(out: &mut [u8; 65536], n: usize, b: u8) -> usize
+fn print_hex_byte(stdout: Stdout, out: &mut [u8; 65536], n: usize, b: u8) -> usize
     requires { n ≤ 65536 }
     ensures { result ≤ 65536 }
 {
-    let m = room(out, n, 2);
+    let m = room(stdout, out, n, 2);
     text::put_hex_byte(out, m, b)
 }
 
 // A body in hex, `-` where it is empty.
-pub fn print_hex(out: &mut [u8; 65536], n: usize, b: &[u8]) -> usize
+pub fn print_hex(stdout: Stdout, out: &mut [u8; 65536], n: usize, b: &[u8]) -> usize
     requires { n ≤ 65536 }
     ensures { result ≤ 65536 }
 {
     if b.len() == 0 {
-        return print_byte(out, n, 45);
+        return print_byte(stdout, out, n, 45);
     }
     let mut m = n;
     let mut i = 0;
     while i < b.len() {
-        m = print_hex_byte(out, m, b[i]);
+        m = print_hex_byte(stdout, out, m, b[i]);
         i += 1;
     }
     m

@@ -1,6 +1,6 @@
 // Reads calls on standard input, one a line, makes them on one session, and prints what each answers.
 #![tactic(auto)]
 
-fn main() {
-    callscript::run();
+fn main(rt: HostRuntime) {
+    callscript::run(rt.stdin(), rt.stdout());
 }

@@ -1,6 +1,6 @@
 // Document 01's short run: reads calls on standard input, for a fresh class 2 session, and prints each.
 #![tactic(auto)]
 
-fn main() {
-    linkscript::run(1);
+fn main(rt: HostRuntime) {
+    linkscript::run(rt.stdin(), rt.stdout(), 1);
 }

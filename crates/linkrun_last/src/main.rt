@@ -1,6 +1,6 @@
 // `linkrun` for a session that has one message number left.
 #![tactic(auto)]
 
-fn main() {
-    linkscript::run(4294967295);
+fn main(rt: HostRuntime) {
+    linkscript::run(rt.stdin(), rt.stdout(), 4294967295);
 }

@@ -6,6 +6,7 @@ ghost use Rattle.std.specs.Prelude.{◌≤◌};
 use peer_session::SessionState;
 use reading::{Call, Line};
 use rules::PreparedCommit;
+use std::io::{Stdin, Stdout};
 
 mod calling; // the session and its calls
 mod printing; // what is printed of a call
@@ -44,6 +45,7 @@ fn answer_call(
     list: &mut [u64; 4096],
     outbound: &mut [u8; 65536],
     queue: &mut [u8; 32768],
+    stdout: Stdout,
     out: &mut [u8; 65536],
     t: Script,
 ) -> Script
@@ -55,7 +57,7 @@ fn answer_call(
     let number = std::num::wrapping_add_u64(t.number, 1);
     let r = calling::call(c, t.session, commit, body, list, outbound, queue);
     let a = r.answer;
-    let n = printing::print_call(out, used, printing::letter(c), a, list, r.events);
+    let n = printing::print_call(stdout, out, used, printing::letter(c), a, list, r.events);
     let session = r.session;
     let next = calling::record_after(a, commit);
     Script {
@@ -66,11 +68,11 @@ fn answer_call(
     }
 }
 
-fn answer_wrong(out: &mut [u8; 65536], t: Script) -> Script
+fn answer_wrong(stdout: Stdout, out: &mut [u8; 65536], t: Script) -> Script
     requires { t.used ≤ 65536 }
     ensures { result.used ≤ 65536 }
 {
-    let n = scripts::print_wrong(out, t.used, t.number);
+    let n = scripts::print_wrong(stdout, out, t.used, t.number);
     let mut r = t;
     r.used = n;
     r.number = std::num::wrapping_add_u64(t.number, 1);
@@ -84,6 +86,7 @@ fn answer(
     list: &mut [u64; 4096],
     outbound: &mut [u8; 65536],
     queue: &mut [u8; 32768],
+    stdout: Stdout,
     out: &mut [u8; 65536],
     t: Script,
 ) -> Script
@@ -92,13 +95,15 @@ fn answer(
 {
     let l = reading::read_sized(line, size, body);
     match l {
-        Line::Call(c) => answer_call(c, body, list, outbound, queue, out, t),
-        Line::Wrong => answer_wrong(out, t),
+        Line::Call(c) => answer_call(c, body, list, outbound, queue, stdout, out, t),
+        Line::Wrong => answer_wrong(stdout, out, t),
     }
 }
 
 // Answers the lines of standard input, and returns how much of the output buffer is used.
 fn answer_input(
+    stdin: Stdin,
+    stdout: Stdout,
     message_number: u64,
     chunk: &mut [u8; 65536],
     line: &mut [u8; 131076],
@@ -114,26 +119,30 @@ fn answer_input(
     let mut input = lines::no_input();
     let mut turns = u64::MAX;
     while turns > 0 {
-        input = lines::next_line(chunk, line, input);
+        input = lines::next_line(stdin, chunk, line, input);
         if !input.found {
             return t.used;
         }
-        t = answer(line, input.size, body, list, outbound, queue, out, t);
+        t = answer(
+            line, input.size, body, list, outbound, queue, stdout, out, t,
+        );
         turns -= 1;
     }
     t.used
 }
 
 // Answers all of standard input, for a fresh session that starts at message_number.
-pub fn run(message_number: u64) {
-    let mut chunk = io::large_buffer();
+pub fn run(stdin: Stdin, stdout: Stdout, message_number: u64) {
+    let mut chunk = [0u8; 65536];
     let mut line = [0u8; 131076];
     let mut body = [0u8; 65537];
     let mut list = [0u64; 4096];
     let mut outbound = [0u8; 65536];
     let mut queue = [0u8; 32768];
-    let mut out = io::large_buffer();
+    let mut out = [0u8; 65536];
     let used = answer_input(
+        stdin,
+        stdout,
         message_number,
         &mut chunk,
         &mut line,
@@ -143,5 +152,5 @@ pub fn run(message_number: u64) {
         &mut queue,
         &mut out,
     );
-    lines::flush(&out, used);
+    lines::flush(stdout, &out, used);
 }

@@ -3,6 +3,7 @@ ghost use Rattle.std.specs.Prelude.{◌+◌, ◌≤◌};
 
 use crate::reading::Call;
 use rules::Answer;
+use std::io::Stdout;
 
 pub fn letter(c: Call) -> u8 {
     match c {
@@ -14,37 +15,55 @@ pub fn letter(c: Call) -> u8 {
     }
 }
 
-fn print_refusal(out: &mut [u8; 65536], used: usize, number: u64) -> usize
+fn print_refusal(stdout: Stdout, out: &mut [u8; 65536], used: usize, number: u64) -> usize
     requires { used ≤ 65536 }
     ensures { result ≤ 65536 }
 {
-    let n = lines::print_bytes(out, used, b" !");
-    scripts::print_field(out, n, number)
+    let n = lines::print_bytes(stdout, out, used, b" !");
+    scripts::print_field(stdout, out, n, number)
 }
 
 // A refusal is printed without its count of events.
-fn print_answer(out: &mut [u8; 65536], used: usize, a: Answer, events: usize) -> usize
+fn print_answer(
+    stdout: Stdout,
+    out: &mut [u8; 65536],
+    used: usize,
+    a: Answer,
+    events: usize,
+) -> usize
     requires { used ≤ 65536 }
     ensures { result ≤ 65536 }
 {
     match a {
-        Answer::Refused(x) => print_refusal(out, used, answers::refusal_number(x)),
-        Answer::Prepared(c) => scripts::print_commit(out, used, c),
-        _ => scripts::print_count(out, used, answers::message_number(a), events),
+        Answer::Refused(x) => print_refusal(stdout, out, used, answers::refusal_number(x)),
+        Answer::Prepared(c) => scripts::print_commit(stdout, out, used, c),
+        _ => scripts::print_count(stdout, out, used, answers::message_number(a), events),
     }
 }
 
 // The event whose words start at index at.
-fn print_event(out: &mut [u8; 65536], used: usize, list: &[u64; 4096], at: usize) -> usize
+fn print_event(
+    stdout: Stdout,
+    out: &mut [u8; 65536],
+    used: usize,
+    list: &[u64; 4096],
+    at: usize,
+) -> usize
     requires { (used ≤ 65536) × (at + 4 ≤ 4096) }
     ensures { result ≤ 65536 }
 {
-    let n = scripts::print_words(out, used, list, at);
-    lines::print_byte(out, n, 10)
+    let n = scripts::print_words(stdout, out, used, list, at);
+    lines::print_byte(stdout, out, n, 10)
 }
 
 // No call lists more than 1,024 events, which is what the list holds.
-fn print_events(out: &mut [u8; 65536], used: usize, list: &[u64; 4096], events: usize) -> usize
+fn print_events(
+    stdout: Stdout,
+    out: &mut [u8; 65536],
+    used: usize,
+    list: &[u64; 4096],
+    events: usize,
+) -> usize
     requires { used ≤ 65536 }
     ensures { result ≤ 65536 }
 {
@@ -54,13 +73,14 @@ fn print_events(out: &mut [u8; 65536], used: usize, list: &[u64; 4096], events: 
     let mut n = used;
     let mut i = 0;
     while i < events {
-        n = print_event(out, n, list, i * 4);
+        n = print_event(stdout, out, n, list, i * 4);
         i += 1;
     }
     n
 }
 
 pub fn print_call(
+    stdout: Stdout,
     out: &mut [u8; 65536],
     used: usize,
     b: u8,
@@ -71,8 +91,8 @@ pub fn print_call(
     requires { used ≤ 65536 }
     ensures { result ≤ 65536 }
 {
-    let n = lines::print_byte(out, used, b);
-    let m = print_answer(out, n, a, events);
-    let k = lines::print_byte(out, m, 10);
-    print_events(out, k, list, events)
+    let n = lines::print_byte(stdout, out, used, b);
+    let m = print_answer(stdout, out, n, a, events);
+    let k = lines::print_byte(stdout, out, m, 10);
+    print_events(stdout, out, k, list, events)
 }

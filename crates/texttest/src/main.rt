@@ -3,6 +3,7 @@
 
 ghost use Rattle.std.specs.Prelude.{◌<◌, ◌≤◌};
 
+use std::io::{Stdin, Stdout};
 use text::{Filled, Taken};
 
 // What a line says; a body lies in the buffer for it.
@@ -86,51 +87,58 @@ fn read_line(s: &[u8], body: &mut [u8]) -> Line {
     Line::Wrong
 }
 
-fn print_pair(out: &mut [u8; 65536], used: usize, v: u64, b: &[u8]) -> usize
+fn print_pair(stdout: Stdout, out: &mut [u8; 65536], used: usize, v: u64, b: &[u8]) -> usize
     requires { used ≤ 65536 }
     ensures { result ≤ 65536 }
 {
-    let n = lines::print_bytes(out, used, b"p ");
-    let m = lines::print_decimal(out, n, v);
-    let k = lines::print_byte(out, m, 32);
-    lines::print_hex(out, k, b)
+    let n = lines::print_bytes(stdout, out, used, b"p ");
+    let m = lines::print_decimal(stdout, out, n, v);
+    let k = lines::print_byte(stdout, out, m, 32);
+    lines::print_hex(stdout, out, k, b)
 }
 
-fn print_body(out: &mut [u8; 65536], used: usize, b: &[u8]) -> usize
+fn print_body(stdout: Stdout, out: &mut [u8; 65536], used: usize, b: &[u8]) -> usize
     requires { used ≤ 65536 }
     ensures { result ≤ 65536 }
 {
-    let n = lines::print_bytes(out, used, b"h ");
-    lines::print_hex(out, n, b)
+    let n = lines::print_bytes(stdout, out, used, b"h ");
+    lines::print_hex(stdout, out, n, b)
 }
 
-fn print_number(out: &mut [u8; 65536], used: usize, b: u8, v: u64) -> usize
+fn print_number(stdout: Stdout, out: &mut [u8; 65536], used: usize, b: u8, v: u64) -> usize
     requires { used ≤ 65536 }
     ensures { result ≤ 65536 }
 {
-    let n = lines::print_byte(out, used, b);
-    let m = lines::print_byte(out, n, 32);
-    lines::print_decimal(out, m, v)
+    let n = lines::print_byte(stdout, out, used, b);
+    let m = lines::print_byte(stdout, out, n, 32);
+    lines::print_decimal(stdout, out, m, v)
 }
 
-fn print_bits(out: &mut [u8; 65536], used: usize, v: u64) -> usize
+fn print_bits(stdout: Stdout, out: &mut [u8; 65536], used: usize, v: u64) -> usize
     requires { used ≤ 65536 }
     ensures { result ≤ 65536 }
 {
-    let n = lines::print_bytes(out, used, b"x ");
-    lines::print_hex16(out, n, v)
+    let n = lines::print_bytes(stdout, out, used, b"x ");
+    lines::print_hex16(stdout, out, n, v)
 }
 
-fn print_line(l: Line, number: u64, body: &[u8], out: &mut [u8; 65536], used: usize) -> usize
+fn print_line(
+    l: Line,
+    number: u64,
+    body: &[u8],
+    stdout: Stdout,
+    out: &mut [u8; 65536],
+    used: usize,
+) -> usize
     requires { used ≤ 65536 }
     ensures { result ≤ 65536 }
 {
     match l {
-        Line::Decimal(v) => print_number(out, used, b'd', v),
-        Line::Bits(v) => print_bits(out, used, v),
-        Line::Body(n) => print_body(out, used, text::front(body, n)),
-        Line::Pair(v, n) => print_pair(out, used, v, text::front(body, n)),
-        Line::Wrong => print_number(out, used, b'?', number),
+        Line::Decimal(v) => print_number(stdout, out, used, b'd', v),
+        Line::Bits(v) => print_bits(stdout, out, used, v),
+        Line::Body(n) => print_body(stdout, out, used, text::front(body, n)),
+        Line::Pair(v, n) => print_pair(stdout, out, used, v, text::front(body, n)),
+        Line::Wrong => print_number(stdout, out, used, b'?', number),
     }
 }
 
@@ -146,6 +154,7 @@ fn answer(
     line: &[u8; 1000],
     size: usize,
     body: &mut [u8; 300],
+    stdout: Stdout,
     out: &mut [u8; 65536],
     p: Place,
 ) -> Place
@@ -153,8 +162,8 @@ fn answer(
     ensures { result.used ≤ 65536 }
 {
     let l = read_sized(line, size, body);
-    let n = print_line(l, p.number, body, out, p.used);
-    let m = lines::print_byte(out, n, 10);
+    let n = print_line(l, p.number, body, stdout, out, p.used);
+    let m = lines::print_byte(stdout, out, n, 10);
     Place {
         number: std::num::wrapping_add_u64(p.number, 1),
         used: m,
@@ -163,6 +172,8 @@ fn answer(
 
 // Answers the lines of standard input, and returns how much of the output buffer is used.
 fn answer_input(
+    stdin: Stdin,
+    stdout: Stdout,
     chunk: &mut [u8; 65536],
     line: &mut [u8; 1000],
     body: &mut [u8; 300],
@@ -174,21 +185,28 @@ fn answer_input(
     let mut input = lines::no_input();
     let mut turns = u64::MAX;
     while turns > 0 {
-        input = lines::next_line(chunk, line, input);
+        input = lines::next_line(stdin, chunk, line, input);
         if !input.found {
             return p.used;
         }
-        p = answer(line, input.size, body, out, p);
+        p = answer(line, input.size, body, stdout, out, p);
         turns -= 1;
     }
     p.used
 }
 
-fn main() {
-    let mut chunk = io::large_buffer();
-    let mut out = io::large_buffer();
+fn main(rt: HostRuntime) {
+    let mut chunk = [0u8; 65536];
+    let mut out = [0u8; 65536];
     let mut line = [0u8; 1000];
     let mut body = [0u8; 300];
-    let used = answer_input(&mut chunk, &mut line, &mut body, &mut out);
-    lines::flush(&out, used);
+    let used = answer_input(
+        rt.stdin(),
+        rt.stdout(),
+        &mut chunk,
+        &mut line,
+        &mut body,
+        &mut out,
+    );
+    lines::flush(rt.stdout(), &out, used);
 }
