@@ -114,7 +114,7 @@ fn compare_programs(options: &[&str]) -> std::io::Result<()> {
         _ if covers => coverage::run(calls, seed),
         Some(path) => compare::run(calls, seed, &without, &program::Program::Other(path.into())),
         None => {
-            eprintln!("no target/bin/linkcalls: build it, or name another by --program or LINKCALLS");
+            eprintln!("no target/bin/linkcalls: make it by tools/build linkcalls, or name another by --program or LINKCALLS");
             false
         }
     };
