@@ -1,4 +1,4 @@
-/* The counter link, for C. Link target/staticlib/liblink_c.a (`rt staticlib link_c`), for x86-64.
+/* The counter link, for C. Link target/staticlib/liblink_c.a (`tools/build link_c`), for x86-64.
  *
  * A session is a struct of yours, link_session. Every call takes it first, lent as four pointers to its parts, and works on it in place; the macro
  * LINK writes those four arguments:
