@@ -1,14 +1,13 @@
 -- Laws of events listed, of the books, and of what is under way. Assumes nothing.
 use mathlib.Core.Path.{◌≡◌, refl, sym, ap, ◌∙◌, subst}
-use mathlib.Core.Bool.{Bool, true, false}
-use mathlib.Core.List.{List, [], ◌∷◌, ◌++◌, append_assoc, append-nil}
-use Prim.Native.Nat.{ℕ, zero, suc, ◌+◌, ◌-◌, ◌*◌, ◌≤◌, ◌<◌}
+use mathlib.Core.Bool.{Bool}
+use mathlib.Core.List.{List, [], ◌∷◌, ◌++◌, append_assoc}
+use Prim.Native.Nat.{ℕ, ◌+◌, ◌*◌, ◌≤◌, ◌<◌}
 use native.Mathlib.Omega.{arith}
 use native.Mathlib.Nat.{add_assoc, add-zero}
 use native.Mathlib.Numerals.{add-one, add-two, add-three}
 use lib.ListN.{length, take, drop, set, length-append, length-take}
 use lib.Seq.{sets-eq, take_at, drop-append-add, drop-drop}
-use lib.Dec.{ltb}
 use borrow.Author.Tests.{lt-ltb, le-ltb}
 use Rattle.stores.specs.Placed.{placed}
 use Rattle.stores.proofs.Laws.{placed-none}
@@ -16,12 +15,11 @@ use Rattle.rules.specs.declared.Clock.{Clock}
 use Rattle.rules.specs.declared.Refusal.{Refusal}
 use Rattle.rules.specs.Lists.{Bytes, if◌then◌else◌, packed}
 use Rattle.rules.specs.State.{Unacked, State}
-use Rattle.rules.specs.Events.{Event, Words, commit_requested, words_of, handed, listed}
+use Rattle.rules.specs.Events.{Event, Words, commit_requested, handed, listed}
 use Rattle.rules.specs.Progress.{Progress, goes, stops, listing, ◌then◌}
 use Rattle.rules.specs.Buffers.{flat}
 use Rattle.rules.proofs.Events.{listed-append}
 use Rattle.rules.proofs.Lists.{packed-append}
-use Rattle.events.specs.declared.Stop.{Stop}
 use Rattle.events.specs.declared.Stop.TheVariants.{No, By}
 use Rattle.events.specs.Written.{ListedIn, Listed, asked, Books, books, write, Within, Final, final, ends}
 

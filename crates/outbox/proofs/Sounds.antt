@@ -1,17 +1,15 @@
 -- Records of unacked messages that are admitted one after the other. Assumes nothing.
-use mathlib.Core.Path.{◌≡◌, refl, ap, ◌∙◌}
-use mathlib.Core.Bool.{Bool, true, false, ◌&&◌}
+use mathlib.Core.Path.{◌≡◌, refl}
+use mathlib.Core.Bool.{true}
 use mathlib.Core.List.{List, [], ◌∷◌}
 use Prim.Native.Nat.{ℕ, ◌+◌, ◌-◌, ◌≤◌, ◌<◌}
 use native.Mathlib.Omega.{arith}
-use lib.ListN.{length, get_or}
-use lib.Seq.{slice}
-use lib.Dec.{leb, ltb}
-use borrow.Author.Tests.{le-leb, lt-leb, lt-ltb, le-ltb, ltb-true, leb-true}
+use lib.Dec.{ltb}
+use borrow.Author.Tests.{le-leb, lt-ltb, ltb-true, leb-true}
 use Rattle.stores.specs.Admitted.{admitted}
 use Rattle.stores.proofs.Chains.{two}
 use Rattle.rules.specs.Lists.{all, total, rising}
-use Rattle.rules.proofs.Lists.{and_left, and_right, and_both}
+use Rattle.rules.proofs.Lists.{and_both}
 use Rattle.outbox.specs.declared.Unacked.{Unacked}
 use Rattle.outbox.specs.View.{num_u, len_u}
 use Rattle.outbox.specs.Sound.{admits_unacked}

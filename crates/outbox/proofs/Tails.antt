@@ -1,11 +1,10 @@
 -- The bytes past the bodies: where they are 0 before a step they are 0 after it, and the store is as the rule book fills it. Assumes nothing.
-use mathlib.Core.Path.{◌≡◌, refl, sym, ap, ◌∙◌}
+use mathlib.Core.Path.{◌≡◌, sym, ap, ◌∙◌}
 use mathlib.Core.List.{List, ◌++◌}
 use Prim.Native.Nat.{ℕ, ◌-◌, ◌≤◌}
 use native.Mathlib.Omega.{arith}
 use lib.ListN.{length, take, drop, replicate, take-append-drop}
 use lib.Seq.{length-take-le}
-use Rattle.rules.specs.Buffers.{repacked}
 use Rattle.stores.proofs.Packs.{repacked_tail}
 use Rattle.rules.specs.Lists.{Bytes, packed, total}
 use Rattle.rules.specs.State as R
@@ -13,7 +12,7 @@ use Rattle.rules.specs.State.{body_of, size_of}
 use Rattle.rules.specs.Buffers.{filled}
 use Rattle.rules.proofs.Lists.{length-packed}
 use Rattle.outbox.specs.declared.Outbox.{Outbox}
-use Rattle.outbox.specs.View.{end_u, unacked_of, ExactOutbox}
+use Rattle.outbox.specs.View.{end_u, unacked_of}
 use Rattle.outbox.specs.Steps.{Repacked}
 use Rattle.outbox.proofs.View.{exact-total, packed-unacked}
 

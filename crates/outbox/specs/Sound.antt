@@ -1,5 +1,5 @@
 -- Whether an outbox is one that calls leave, by its records alone. Assumes nothing.
-use Rattle.std.specs.Prelude.{ℕ, ◌-◌, Bool, true, false, ◌&&◌, leb, ltb}
+use Rattle.std.specs.Prelude.{ℕ, ◌-◌, Bool, ◌&&◌, leb, ltb}
 use Rattle.stores.specs.Admitted.{admitted}
 use Rattle.rules.specs.Limits.{messages_end, max_unacked, outbound_bytes}
 use Rattle.outbox.specs.declared.Unacked.{Unacked}

@@ -1,15 +1,13 @@
 -- The contracts of `outbox`. Assumes nothing.
-use Rattle.std.specs.Prelude.{ℕ, ◌+◌, ◌*◌, ◌≤◌, ◌<◌, ◌≡◌, Bool, true, false, List, [], ◌∷◌, ◌++◌, map, length}
+use Rattle.std.specs.Prelude.{ℕ, ◌+◌, ◌*◌, ◌≤◌, ◌<◌, ◌≡◌, Bool, List, [], ◌∷◌, ◌++◌, map, length}
 use Rattle.rules.specs.Buffers.{repacked}
 use Rattle.stores.specs.Placed.{placed}
 use Rattle.rules.specs.Lists.{Bytes, if◌then◌else◌, kept, packed}
 use Rattle.rules.specs.State as R
 use Rattle.rules.specs.State.{body_of}
 use Rattle.rules.specs.Sending.{fresh}
-use Rattle.rules.specs.Acks.{sent}
 use Rattle.rules.specs.Commits.{releases, release, data_frame}
 use Rattle.rules.specs.Replay.{not_pending}
-use Rattle.rules.specs.Events.{Event}
 use Rattle.events.specs.Written.{ListedIn}
 use Rattle.outbox.specs.declared.Unacked.{Unacked}
 use Rattle.outbox.specs.declared.Outbox.{Outbox}

@@ -1,5 +1,5 @@
 -- A sweep over the records, which drops some and moves the others down: what it keeps from turn to turn. Assumes nothing.
-use Rattle.std.specs.Prelude.{ℕ, ◌+◌, ◌≤◌, ◌≡◌, Bool, true, false, List, ◌++◌, length, take, drop}
+use Rattle.std.specs.Prelude.{ℕ, ◌+◌, ◌≤◌, ◌≡◌, Bool, List, ◌++◌, length, take, drop}
 use Rattle.std.proofs.Math.Seq.{slice}
 use Rattle.stores.specs.Packed.{cut}
 use Rattle.stores.specs.Placed.{placed}

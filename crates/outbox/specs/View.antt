@@ -1,5 +1,5 @@
 -- The unacked messages: records in an array, bodies packed in the outbound store. Assumes nothing.
-use Rattle.std.specs.Prelude.{ℕ, ◌≤◌, ◌≡◌, Bool, true, false, List, length, take}
+use Rattle.std.specs.Prelude.{ℕ, ◌≤◌, ◌≡◌, false, List, length, take}
 use Rattle.stores.specs.Packed.{cut}
 use Rattle.rules.specs.Lists.{Bytes, total}
 use Rattle.rules.specs.State as R

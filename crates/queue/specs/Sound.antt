@@ -1,5 +1,5 @@
 -- Whether a queue is one that calls leave, by its records alone. Assumes nothing.
-use Rattle.std.specs.Prelude.{ℕ, ◌-◌, Bool, true, false, ◌&&◌, leb, ltb}
+use Rattle.std.specs.Prelude.{ℕ, ◌-◌, Bool, ◌&&◌, leb, ltb}
 use Rattle.stores.specs.Admitted.{admitted}
 use Rattle.rules.specs.declared.Policy.{Policy}
 use Rattle.rules.specs.Limits.{last_remote, session_reject, max_queued_messages, max_queued_bytes, max_peer_body}

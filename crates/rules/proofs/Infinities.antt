@@ -3,7 +3,7 @@ use mathlib.Core.Path.{◌≡◌, refl}
 use mathlib.Core.Bool.{Bool, true, false, not}
 use Prim.Native.Nat.{ℕ}
 use lib.IntN.{ℤ}
-use lib.Ieee.{Float, nan, inf, fin, binary64, add, sub, neg, lt}
+use lib.Ieee.{Float, nan, inf, fin, add, sub, neg, lt}
 use Rattle.rules.specs.Clock.{held_back}
 
 -- "A NaN is not held back", be it the time now or the time of the last replay

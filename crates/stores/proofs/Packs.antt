@@ -1,10 +1,9 @@
 -- The laws of `cut` and `repacked`, and of arrays of records with a count. Assumes nothing.
 use mathlib.Core.Path.{◌≡◌, refl, sym, ap, ◌∙◌}
-use mathlib.Core.Bool.{Bool, true, false}
-use mathlib.Core.List.{List, [], ◌∷◌, ◌++◌, map, append_assoc, append-nil}
+use mathlib.Core.List.{List, [], ◌∷◌, ◌++◌, map, append_assoc}
 use Prim.Native.Nat.{ℕ, zero, suc, ◌+◌, ◌-◌, ◌≤◌, ◌<◌, max}
 use native.Mathlib.Omega.{arith}
-use native.Mathlib.Nat.{add_assoc, zero-add, add-zero, sub-zero, zero-sub, suc-sub-suc}
+use native.Mathlib.Nat.{add-zero, sub-zero, zero-sub, suc-sub-suc}
 use lib.ListN.{length, take, drop, get_or, set, length-append, length-take, length-drop, take-append-drop, drop_of_length-le, length-map, replicate, length-replicate, replicate-append-replicate}
 use native.Mathlib.Numerals.{add-one}
 use lib.Seq.{set_split, take-nil, drop-nil, take-suc-set, take-set-lt, drop-set-lt, slice, slice-cons, take_at, drop_at, take-append-le, drop-append-le, take-take, drop-drop, take-add, length-take-le}

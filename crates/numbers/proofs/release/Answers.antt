@@ -1,5 +1,4 @@
 use lib.ListN.{length, get_or}
-use Prim.Native.Nat.{◌-◌}
 use native.Mathlib.Omega.{arith}
 use mathlib.Core.Path.{◌≡◌}
 use lib.Dec.{ltb}

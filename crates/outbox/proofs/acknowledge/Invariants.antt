@@ -1,6 +1,5 @@
 use mathlib.Core.Path.{◌≡◌}
 use Prim.Native.Nat.{◌-◌}
-use Rattle.rules.specs.Lists.{kept}
 use Rattle.outbox.proofs.Sweeps.{Turns}
 use Rattle.outbox.proofs.acknowledge.Given as goal
 

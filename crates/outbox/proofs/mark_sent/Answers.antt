@@ -1,12 +1,10 @@
 use mathlib.Core.Path.{refl}
-use Prim.Native.Nat.{◌-◌}
 use Rattle.outbox.proofs.Flags.{flagging_none, flagging_more, flagging_all, sent-flags}
 use native.Mathlib.Omega.{arith}
 use Rattle.outbox.proofs.mark_sent.Goals as goal
 
 pub loop-i-init : goal.loop-i-init
 loop-i-init c =
-    
     (refl, flagging_none (sent-flags c.args.number) c.args.o (omega arith) c.requires)
 
 pub loop-i-preserved : goal.loop-i-preserved

@@ -1,6 +1,6 @@
 use native.Mathlib.Omega.{arith}
 use mathlib.Core.Path.{◌≡◌, refl, ap, ◌∙◌}
-use Prim.Native.Nat.{◌+◌, ◌-◌, ◌≤◌}
+use Prim.Native.Nat.{◌+◌, ◌≤◌}
 use lib.ListN.{length, get_or}
 use Rattle.rules.specs.Commits as R
 use Rattle.outbox.specs.declared.Unacked.{Unacked}
@@ -14,7 +14,6 @@ use Rattle.outbox.proofs.release.Goals as goal
 
 pub loop-i-init : goal.loop-i-init
 loop-i-init c =
-    
     let s : SoundU c.args.o = sound_facts c.args.o c.requires.0 in
     let full : length c.args.o.records ≡ 256 = omega arith in
     (refl, flagging_none (release-flags c.args.upto) c.args.o full s.few, listing_none (R.releases c.args.upto) c.args.o c.args.list.now c.args.n s full c.requires.1)
@@ -27,7 +26,6 @@ overflow_add-at c = let fits : let l = c.loop-i in l.at + (get_or l.r.records l.
 
 pub loop-i-preserved : goal.loop-i-preserved
 loop-i-preserved c =
-    
     let lt = c.loop-i-test.true in
     let f = c.loop-i.invariant.1 in
     let u = get_or c.loop-i.r.records c.loop-i.i blank_u in (

@@ -1,6 +1,5 @@
 use native.Mathlib.Omega.{arith}
 use mathlib.Core.Path.{◌≡◌, refl}
-use Prim.Native.Nat.{◌-◌}
 use lib.ListN.{length, get_or}
 use Rattle.rules.specs.Replay.{not_pending}
 use Rattle.outbox.specs.View.{blank_u}
@@ -12,7 +11,6 @@ use Rattle.outbox.proofs.replay.Goals as goal
 
 pub loop-i-init : goal.loop-i-init
 loop-i-init c =
-    
     let s : SoundU c.args.o = sound_facts c.args.o c.requires.0 in
     let full : length c.args.o.records ≡ 256 = omega arith in
     (refl, listing_none not_pending c.args.o c.args.list.now c.args.n s full c.requires.1)
@@ -25,7 +23,6 @@ overflow_add-at c = omega (arith, listing-fits c.loop-i.invariant.1 c.loop-i-tes
 
 pub loop-i-preserved : goal.loop-i-preserved
 loop-i-preserved c =
-    
     let lt = c.loop-i-test.true in
     let u = get_or c.args.o.records c.loop-i.i blank_u in (
       refl,

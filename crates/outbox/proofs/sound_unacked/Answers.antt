@@ -15,7 +15,6 @@ loop-i-init c = (omega arith, omega arith, omega arith, refl)
 pub returns-then-not-admits_unacked : goal.returns-then-not-admits_unacked
 unfolding sound_unacked
 returns-then-not-admits_unacked c =
-    
     let o = c.args.o in
     sym
     (admitted_not num_u len_u (admits_unacked o.next) o.records c.loop-i.i o.count blank_u (omega arith) (omega arith) c.loop-i.last c.loop-i.sum
@@ -27,8 +26,6 @@ overflow_add-sum c = let admits : admits_unacked c.args.o.next c.loop-i.last c.l
 
 pub loop-i-preserved : goal.loop-i-preserved
 loop-i-preserved c = let admits : admits_unacked c.args.o.next c.loop-i.last c.loop-i.sum (get_or c.args.o.records c.loop-i.i blank_u) ≡ true = sym c.admits_unacked.ensures ∙ c.if-not-admits_unacked.false in let room : (get_or c.args.o.records c.loop-i.i blank_u).len ≤ 65536 - c.loop-i.sum = (admits_facts c.args.o.next c.loop-i.last c.loop-i.sum (get_or c.args.o.records c.loop-i.i blank_u) (admits)).room in
-   
-    
     let o = c.args.o in (
       omega arith,
       omega arith,
@@ -39,6 +36,5 @@ loop-i-preserved c = let admits : admits_unacked c.args.o.next c.loop-i.last c.l
 pub returns : goal.returns
 unfolding sound_unacked
 returns c =
-    
     let o = c.args.o in
     sym (admitted-none num_u len_u (admits_unacked o.next) o.records c.loop-i.i o.count c.loop-i.last c.loop-i.sum c.loop-i-test.false) ∙ c.loop-i.invariant.3

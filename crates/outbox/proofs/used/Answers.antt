@@ -1,4 +1,3 @@
-use Prim.Native.Nat.{◌-◌}
 use native.Mathlib.Omega.{arith}
 use Rattle.stores.proofs.Packs.{total-step, total-none}
 use Rattle.outbox.specs.View.{len_u, blank_u}

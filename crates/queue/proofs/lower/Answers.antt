@@ -1,5 +1,5 @@
 use Rattle.stores.proofs.Runs.{Run, lower_none, lower_more, run-all}
-use Prim.Native.Nat.{ℕ, ◌-◌, ◌+◌}
+use Prim.Native.Nat.{ℕ, ◌+◌}
 use native.Mathlib.Omega.{arith}
 use native.Mathlib.Nat.{zero-add}
 use mathlib.Core.Path.{◌≡◌, subst}

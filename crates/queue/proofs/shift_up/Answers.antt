@@ -14,7 +14,6 @@ loop-j-init c =
 
 pub loop-j-preserved : goal.loop-j-preserved
 loop-j-preserved c =
-    
     raise_more _ _ _ _ _ _ blank_q c.loop-j.invariant (omega arith) c.loop-j-test.true
 
 pub returns : goal.returns

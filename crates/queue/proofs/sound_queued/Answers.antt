@@ -15,7 +15,6 @@ loop-i-init c = (omega arith, omega arith, omega arith, refl)
 pub returns-then-not-admits_queued : goal.returns-then-not-admits_queued
 unfolding sound_queued
 returns-then-not-admits_queued c =
-    
     let a = c.args in
     let o = a.q in
     sym (admitted_not num_q len_q (admits_queued a.p) o.records c.loop-i.i o.count blank_q (omega arith) (omega arith) c.loop-i.last c.loop-i.sum
@@ -26,9 +25,6 @@ overflow_add-sum c = let admits : admits_queued c.args.p c.loop-i.last c.loop-i.
 
 pub loop-i-preserved : goal.loop-i-preserved
 loop-i-preserved c = let admits : admits_queued c.args.p c.loop-i.last c.loop-i.sum (get_or c.args.q.records c.loop-i.i blank_q) ≡ true = sym c.admits_queued.ensures ∙ c.if-not-admits_queued.false in let room : (get_or c.args.q.records c.loop-i.i blank_q).len ≤ c.args.p.bytes - c.loop-i.sum = (admits-fits c.args.p c.loop-i.last c.loop-i.sum (get_or c.args.q.records c.loop-i.i blank_q) (admits)).room in
-   
-    
-    
     let a = c.args in
     let o = a.q in (
       omega arith,
@@ -40,7 +36,6 @@ loop-i-preserved c = let admits : admits_queued c.args.p c.loop-i.last c.loop-i.
 pub returns : goal.returns
 unfolding sound_queued
 returns c =
-    
     let a = c.args in
     let o = a.q in
     sym (admitted-none num_q len_q (admits_queued a.p) o.records c.loop-i.i o.count c.loop-i.last c.loop-i.sum c.loop-i-test.false) ∙ c.loop-i.invariant.3

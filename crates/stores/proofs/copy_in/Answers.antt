@@ -1,4 +1,3 @@
-use Prim.Native.Nat.{◌-◌}
 use mathlib.Core.Path.{refl}
 use Rattle.stores.proofs.Runs.{run_none, run_more, run-all}
 use borrow.Author.Rules.{rules}

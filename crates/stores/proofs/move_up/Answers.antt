@@ -7,7 +7,6 @@ loop-j-init c = raise_none _ _ _ _ c.requires.0 c.requires.1
 
 pub loop-j-preserved : goal.loop-j-preserved
 loop-j-preserved c =
-    
     raise_more _ _ _ _ _ _ 0 c.loop-j.invariant c.requires.0 c.loop-j-test.true
 
 pub returns : goal.returns

@@ -1,4 +1,3 @@
-use Prim.Native.Nat.{◌-◌}
 use Rattle.stores.proofs.Matches.{same-other, matching_none, matching_more, matching_stop, matching_all}
 use Rattle.stores.proofs.same_bytes.Goals as goal
 

@@ -1,4 +1,3 @@
-use Prim.Native.Nat.{◌-◌}
 use Rattle.text.proofs.Fields.{seeking_none, seeking_more, seeking_here, seeking_all}
 use Rattle.text.proofs.find.Goals as goal
 

@@ -1,4 +1,3 @@
-use Prim.Native.Nat.{◌-◌}
 use Rattle.text.proofs.Pairs.{is_digit, no_digit, testing_none, testing_more, testing_stop, testing_all}
 use Rattle.text.proofs.is_hex.Goals as goal
 

@@ -1,5 +1,4 @@
 use mathlib.Core.Path.{sym, ◌∙◌}
-use Prim.Native.Nat.{◌-◌}
 use Rattle.text.proofs.Numbers.{reading_none, reading_more, reading_wrong, reading_all, number-none}
 use Rattle.text.proofs.read_number.Goals as goal
 

@@ -1,5 +1,4 @@
 use native.Mathlib.Omega.{arith}
-use Prim.Native.Nat.{◌-◌}
 use Rattle.stores.proofs.Runs.{run_none, run-all}
 use Rattle.text.proofs.Pairs.{digit_at, length_pairs, run-pairs}
 use Rattle.text.proofs.write_pairs.Goals as goal
