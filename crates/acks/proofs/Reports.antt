@@ -1,4 +1,5 @@
 -- A report of a send, test by test. Assumes nothing.
+use Rattle.std.specs.Prelude.{if◌then◌else◌}
 use mathlib.Core.Path.{◌≡◌, refl, sym, ap, ◌∙◌}
 use mathlib.Core.Bool.{Bool, true, false, not, ◌&&◌}
 use mathlib.Core.List.{List, [], ◌∷◌, map}
@@ -11,7 +12,7 @@ use borrow.Author.Tests.{lt-ltb, le-ltb, eq-eqb, ne_eqb, le-leb, lt-leb}
 use Rattle.stores.specs.Placed.{placed}
 use Rattle.rules.specs.declared.Answer.TheVariants.{Done}
 use Rattle.rules.specs.declared.Refusal.TheVariants.{RetriesFull}
-use Rattle.rules.specs.Lists.{Bytes, if◌then◌else◌, itself, has, put, kept}
+use Rattle.rules.specs.Lists.{Bytes, itself, has, put, kept}
 use Rattle.rules.specs.State as R
 use Rattle.rules.specs.State.{unacked_is, retry_is, handoff_is}
 use Rattle.rules.specs.Events.{commit_requested, listed}

@@ -1,4 +1,5 @@
 -- The steps of an ack: what it lists, and what it leaves. Assumes nothing.
+use Rattle.std.specs.Prelude.{if◌then◌else◌}
 use mathlib.Core.Path.{◌≡◌, refl, sym, ap, ◌∙◌}
 use mathlib.Core.Bool.{Bool, true, false, ◌&&◌, ◌||◌}
 use mathlib.Core.List.{List, [], ◌∷◌}
@@ -13,7 +14,7 @@ use Rattle.stores.proofs.Laws.{placed-none}
 use Rattle.rules.specs.declared.Clock.{Clock}
 use Rattle.rules.specs.declared.Refusal.TheVariants.{AckOutOfRange}
 use Rattle.rules.specs.declared.Answer.TheVariants.{Flag}
-use Rattle.rules.specs.Lists.{Bytes, if◌then◌else◌, kept, packed}
+use Rattle.rules.specs.Lists.{Bytes, kept, packed}
 use Rattle.rules.specs.State as R
 use Rattle.rules.specs.State.{body_of, unacked_is, handoff_is, is_raw}
 use Rattle.rules.specs.Clock.{raised}

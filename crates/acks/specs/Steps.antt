@@ -1,10 +1,10 @@
 -- The contracts of the steps of an ack. Assumes nothing.
-use Rattle.std.specs.Prelude.{ℕ, ◌+◌, ◌*◌, ◌<◌, ◌≡◌, Bool, true, false, List, [], ◌∷◌, ◌++◌, length}
+use Rattle.std.specs.Prelude.{ℕ, ◌+◌, ◌*◌, ◌<◌, ◌≡◌, Bool, true, false, List, [], ◌∷◌, ◌++◌, length, if◌then◌else◌}
 use Rattle.stores.specs.Placed.{placed}
 use Rattle.rules.specs.declared.Clock.{Clock}
 use Rattle.rules.specs.declared.Answer.TheVariants.{Flag, Refused}
 use Rattle.rules.specs.declared.Refusal.TheVariants.{AckOutOfRange}
-use Rattle.rules.specs.Lists.{Bytes, if◌then◌else◌, packed}
+use Rattle.rules.specs.Lists.{Bytes, packed}
 use Rattle.rules.specs.State.{State, body_of, handoff_is, is_raw}
 use Rattle.rules.specs.Events.{Event, acknowledged, rejection_acknowledged, failure}
 use Rattle.rules.specs.Setup.{rejection_complete}

@@ -1,4 +1,5 @@
 -- What a proposal and a reject change in a turn. Assumes nothing.
+use Rattle.std.specs.Prelude.{if◌then◌else◌}
 use mathlib.Core.Path.{◌≡◌, refl, sym, ap, ◌∙◌}
 use mathlib.Core.Bool.{Bool, true, false, not, ◌&&◌, ◌||◌, true≢false}
 use mathlib.Core.List.{List, [], ◌∷◌, ◌++◌}
@@ -9,7 +10,7 @@ use lib.Dec.{ltb, eqb}
 use borrow.Author.Tests.{lt-ltb, le-ltb, eq-eqb, ne_eqb}
 use Rattle.rules.specs.declared.Clock.{Clock}
 use Rattle.rules.specs.declared.Refusal.TheVariants.{NumbersExhausted, UnackedFull}
-use Rattle.rules.specs.Lists.{Bytes, if◌then◌else◌, empty, total}
+use Rattle.rules.specs.Lists.{Bytes, empty, total}
 use Rattle.rules.specs.State as R
 use Rattle.rules.specs.State.{size_of, unacked_is, disposition_is}
 use Rattle.rules.specs.Clock.{raised}

@@ -1,4 +1,5 @@
 -- A queue that rises, its next frame, and the rule book's turn by its tests. Assumes nothing.
+use Rattle.std.specs.Prelude.{if◌then◌else◌}
 use mathlib.Core.Path.{◌≡◌, refl, sym, ap, ◌∙◌, subst}
 use mathlib.Core.Bool.{Bool, true, false, not}
 use mathlib.Core.List.{List, [], ◌∷◌, ◌++◌}
@@ -13,7 +14,7 @@ use borrow.Author.Tests.{ltb-true, leb-true, lt-ltb, le-leb, eq-eqb, ne_eqb}
 use Rattle.stores.specs.Packed.{cut}
 use Rattle.stores.proofs.Packs.{slice-step, drop-cut, total_snoc, take_set_snoc}
 use Rattle.rules.specs.declared.HostStatus.{HostStatus}
-use Rattle.rules.specs.Lists.{Bytes, if◌then◌else◌, kept, all, first, total, put, rising, itself}
+use Rattle.rules.specs.Lists.{Bytes, kept, all, first, total, put, rising, itself}
 use Rattle.rules.specs.State as R
 use Rattle.rules.specs.State.{frame_number, frame_size, is_frame}
 use Rattle.rules.specs.Sound.{at_most}

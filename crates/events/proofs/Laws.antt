@@ -1,4 +1,5 @@
 -- Laws of events listed, of the books, and of what is under way. Assumes nothing.
+use Rattle.std.specs.Prelude.{if◌then◌else◌}
 use mathlib.Core.Path.{◌≡◌, refl, sym, ap, ◌∙◌, subst}
 use mathlib.Core.Bool.{Bool}
 use mathlib.Core.List.{List, [], ◌∷◌, ◌++◌, append_assoc}
@@ -13,7 +14,7 @@ use Rattle.stores.specs.Placed.{placed}
 use Rattle.stores.proofs.Laws.{placed-none}
 use Rattle.rules.specs.declared.Clock.{Clock}
 use Rattle.rules.specs.declared.Refusal.{Refusal}
-use Rattle.rules.specs.Lists.{Bytes, if◌then◌else◌, packed}
+use Rattle.rules.specs.Lists.{Bytes, packed}
 use Rattle.rules.specs.State.{Unacked, State}
 use Rattle.rules.specs.Events.{Event, Words, commit_requested, handed, listed}
 use Rattle.rules.specs.Progress.{Progress, goes, stops, listing, ◌then◌}

@@ -1,8 +1,8 @@
 -- The event list and the delivery buffer while a call writes them, and what a call under way comes to with them. Assumes nothing.
-use Rattle.std.specs.Prelude.{ℕ, ◌+◌, ◌*◌, ◌≤◌, ◌≡◌, List, [], ◌∷◌, length, ltb}
+use Rattle.std.specs.Prelude.{ℕ, ◌+◌, ◌*◌, ◌≤◌, ◌≡◌, List, [], ◌∷◌, length, ltb, if◌then◌else◌}
 use Rattle.stores.specs.Placed.{placed}
 use Rattle.rules.specs.declared.Clock.{Clock}
-use Rattle.rules.specs.Lists.{Bytes, if◌then◌else◌, packed}
+use Rattle.rules.specs.Lists.{Bytes, packed}
 use Rattle.rules.specs.State.{Unacked, State}
 use Rattle.rules.specs.Events.{Event, commit_requested, handed, listed}
 use Rattle.rules.specs.Progress.{Progress, goes, stops}

@@ -1,4 +1,5 @@
 -- `channel_command`, test by test. Assumes nothing.
+use Rattle.std.specs.Prelude.{if◌then◌else◌}
 use mathlib.Core.Path.{◌≡◌, refl, sym, ap, ◌∙◌}
 use mathlib.Core.Bool.{Bool, true, false}
 use mathlib.Core.List.{List, []}
@@ -9,7 +10,7 @@ use lib.ListN.{length, replicate, length-replicate}
 use borrow.Author.Tests.{le-leb, lt-leb, lt-ltb, le-ltb}
 use Rattle.rules.specs.declared.Answer.TheVariants.{Refused}
 use Rattle.rules.specs.declared.Refusal.TheVariants.{GenerationsExhausted, HandoffTooLong}
-use Rattle.rules.specs.Lists.{Bytes, if◌then◌else◌}
+use Rattle.rules.specs.Lists.{Bytes}
 use Rattle.rules.specs.State as R
 use Rattle.rules.specs.Progress.{Outcome, outcome}
 use Rattle.rules.specs.Handoff.{Command, starting, command_size, command}

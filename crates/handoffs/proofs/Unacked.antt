@@ -1,4 +1,5 @@
 -- What is asked of the unacked messages, whose numbers rise, by their records. Assumes nothing.
+use Rattle.std.specs.Prelude.{if◌then◌else◌}
 use mathlib.Core.Path.{◌≡◌, refl, sym, ap, ◌∙◌}
 use mathlib.Core.Bool.{Bool, true, false, ◌&&◌, ◌||◌}
 use mathlib.Core.List.{List, [], ◌∷◌}
@@ -10,7 +11,7 @@ use lib.Dec.{leb, ltb, eqb}
 use borrow.Author.Tests.{lt-leb, leb-false, ne_eqb, eqb-true, ltb-true}
 use Rattle.stores.specs.Packed.{cut}
 use Rattle.stores.proofs.Chains.{two}
-use Rattle.rules.specs.Lists.{Bytes, if◌then◌else◌, any, same, total, rising}
+use Rattle.rules.specs.Lists.{Bytes, any, same, total, rising}
 use Rattle.rules.specs.State as R
 use Rattle.rules.specs.Handoff.{numbered_to}
 use Rattle.outbox.specs.declared.Unacked.{Unacked}

@@ -1,9 +1,9 @@
 -- A channel's command, and the contracts of its steps. Assumes nothing.
-use Rattle.std.specs.Prelude.{ℕ, ◌≤◌, ◌<◌, ◌≡◌, Bool, true, false, ◌&&◌, List, length, eqb}
+use Rattle.std.specs.Prelude.{ℕ, ◌≤◌, ◌<◌, ◌≡◌, Bool, true, false, ◌&&◌, List, length, eqb, if◌then◌else◌}
 use Rattle.std.proofs.Math.Option.{Option, none, some}
 use Rattle.rules.specs.declared.Setup.TheVariants.{Started}
 use Rattle.rules.specs.declared.Answer.TheVariants.{Done}
-use Rattle.rules.specs.Lists.{Bytes, if◌then◌else◌, same}
+use Rattle.rules.specs.Lists.{Bytes, same}
 use Rattle.rules.specs.State as R
 use Rattle.rules.specs.Progress.{Progress, stays, ◌then◌, request, Outcome, answers}
 use Rattle.rules.specs.Handoff.{Command, channel_command, validate}

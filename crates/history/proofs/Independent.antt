@@ -1,5 +1,6 @@
 -- What a call does depends on no body in a store that it does not take: of the queue's frames, and of the unacked messages, only on what the session's
 -- records say. Assumes nothing.
+use Rattle.std.specs.Prelude.{if◌then◌else◌}
 use mathlib.Core.Path.{◌≡◌, refl, sym, ap, ◌∙◌, subst}
 use mathlib.Core.Bool.{Bool, true, false, not, ◌&&◌, true≢false}
 use mathlib.Core.List.{List, [], ◌∷◌, ◌++◌, map}
@@ -16,7 +17,7 @@ use Rattle.rules.specs.declared.Setup.TheVariants.{None, Waiting, Started, Retir
 use Rattle.rules.specs.declared.Refusal.{Refusal}
 use Rattle.rules.specs.declared.Answer.{Answer}
 use Rattle.rules.specs.declared.Answer.TheVariants.{Done}
-use Rattle.rules.specs.Lists.{Bytes, if◌then◌else◌, empty, kept, before}
+use Rattle.rules.specs.Lists.{Bytes, empty, kept, before}
 use Rattle.rules.specs.State.{Frame, Unacked, Handoff, State, unacked_is, queue_is, is_number, start_of}
 use Rattle.rules.specs.Clock.{at_limit}
 use Rattle.rules.specs.Events.{Event, commit_requested, message, acknowledged, rejection_acknowledged, keepalive, committed, failure, send_data, send_ack, answer_ack, words_of, handed, listed}

@@ -1,5 +1,6 @@
 -- What the contracts of the exported calls say, in the rule book's words: a start gives a new session, and a call leaves and shows what the rule book
 -- says of the session that it was made on. Assumes nothing.
+use Rattle.std.specs.Prelude.{if◌then◌else◌}
 use mathlib.Core.Path.{◌≡◌, refl, sym, ap, ◌∙◌, subst}
 use mathlib.Core.Bool.{Bool, true, false, ◌&&◌, ◌||◌, true≢false}
 use mathlib.Core.List.{List, [], ◌++◌}
@@ -13,7 +14,7 @@ use Rattle.rules.specs.declared.Answer.{Answer}
 use Rattle.rules.specs.declared.Answer.TheVariants.{Done, Refused}
 use Rattle.rules.specs.declared.Refusal.{Refusal}
 use Rattle.rules.specs.declared.Refusal.TheVariants.{ShortBuffer, UnknownCode}
-use Rattle.rules.specs.Lists.{Bytes, if◌then◌else◌, total, packed}
+use Rattle.rules.specs.Lists.{Bytes, total, packed}
 use Rattle.rules.specs.State.{Handoff, State}
 use Rattle.rules.specs.Start.{Reliable, Start, started, unstarted, good_record, good_policy, good_reject, new, start}
 use Rattle.rules.specs.Sound.{sound}

@@ -1,4 +1,5 @@
 -- Every call on every session of a history has a result that meets its contract: the statement asks for nothing that cannot be. Assumes nothing.
+use Rattle.std.specs.Prelude.{if◌then◌else◌}
 use mathlib.Core.Path.{◌≡◌, refl, sym, ap, ◌∙◌, subst}
 use mathlib.Core.Bool.{Bool, true, false}
 use mathlib.Core.List.{List, [], ◌∷◌, ◌++◌, map}
@@ -9,7 +10,7 @@ use lib.Dec.{ltb}
 use borrow.Author.Tests.{le-ltb}
 use native.Mathlib.Omega.{arith}
 use Rattle.rules.specs.declared.Refusal.TheVariants.{ShortBuffer, UnknownCode}
-use Rattle.rules.specs.Lists.{Bytes, if◌then◌else◌, packed, total, itself}
+use Rattle.rules.specs.Lists.{Bytes, packed, total, itself}
 use Rattle.rules.specs.State.{Message, Handoff, State, body_of}
 use Rattle.rules.specs.Progress.{Outcome}
 use Rattle.rules.specs.Acks.{receive_keepalive}

@@ -1,4 +1,5 @@
 -- An ack on the parts of a session, done in place. Assumes nothing.
+use Rattle.std.specs.Prelude.{if◌then◌else◌}
 use Prim.Native.Nat.{ℕ, ◌+◌, ◌≤◌, ◌<◌}
 use mathlib.Core.Path.{◌≡◌, refl, sym, ap, ◌∙◌, subst}
 use mathlib.Core.Bool.{Bool, true, false, ◌&&◌, ◌||◌}
@@ -14,7 +15,7 @@ use Rattle.rules.specs.declared.Refusal.{Refusal}
 use Rattle.rules.specs.declared.ReceiveMode.TheVariants.{Raw, Proposal, Channel, Rejection, Retiring}
 use Rattle.rules.specs.declared.Refusal.TheVariants.{ShortBuffer, BadRecord, AckOutOfRange, GenerationsExhausted}
 use Rattle.rules.specs.declared.Clock.{Clock}
-use Rattle.rules.specs.Lists.{Bytes, if◌then◌else◌, kept, empty}
+use Rattle.rules.specs.Lists.{Bytes, kept, empty}
 use Rattle.rules.specs.State.{is_raw}
 use Rattle.rules.specs.Acks.{survives}
 use Rattle.rules.specs.Calls.{gets_ack}

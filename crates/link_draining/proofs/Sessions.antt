@@ -1,4 +1,5 @@
 -- Which session the parts are after a change: another queue, other acks that wait, or a failed stage. Assumes nothing.
+use Rattle.std.specs.Prelude.{if◌then◌else◌}
 use Prim.Native.Nat.{ℕ, ◌+◌, ◌≤◌, ◌<◌}
 use mathlib.Core.Path.{◌≡◌, refl, sym, ap, ◌∙◌}
 use mathlib.Core.Bool.{Bool, true, false}
@@ -12,7 +13,6 @@ use borrow.Author.Tests.{eqb-true, eq-eqb, ne_eqb}
 use Rattle.rules.specs.declared.Clock.{Clock}
 use Rattle.rules.specs.declared.ReceiveMode.{ReceiveMode}
 use Rattle.rules.specs.declared.ReceiveMode.TheVariants.{Raw, Proposal, Channel, Rejection, Retiring}
-use Rattle.rules.specs.Lists.{if◌then◌else◌}
 use Rattle.rules.specs.State.{is_channel}
 use Rattle.rules.specs.Receiving.{mode_of}
 use Rattle.numbers.specs.declared.Numbers.{Numbers}

@@ -1,7 +1,7 @@
 -- What a turn leaves of the parts of a session: w, h, b are the words, halves and bytes before, and w', h', b' after. Assumes nothing.
-use Rattle.std.specs.Prelude.{ℕ, ◌+◌, ◌*◌, ◌≤◌, ◌≡◌, true, List, [], eqb, Float, set}
+use Rattle.std.specs.Prelude.{ℕ, ◌+◌, ◌*◌, ◌≤◌, ◌≡◌, true, List, [], eqb, Float, set, if◌then◌else◌}
 use Rattle.rules.specs.declared.Clock.{Clock}
-use Rattle.rules.specs.Lists.{Bytes, if◌then◌else◌}
+use Rattle.rules.specs.Lists.{Bytes}
 use Rattle.outbox.specs.Steps.{Left}
 use Rattle.queue.specs.View.{ExactQueue}
 use Rattle.peer_session.specs.View.{reject_of}

@@ -1,4 +1,5 @@
 -- A command on the parts of a session: its tests, and the call. Assumes nothing.
+use Rattle.std.specs.Prelude.{if◌then◌else◌}
 use Prim.Native.Nat.{ℕ, ◌≤◌, ◌<◌}
 use mathlib.Core.Path.{◌≡◌, refl, sym, ◌∙◌, subst}
 use mathlib.Core.Bool.{Bool, true, false, true≢false}
@@ -10,7 +11,7 @@ use lib.ListN.{length}
 use Rattle.rules.specs.declared.Answer.TheVariants.{Refused}
 use Rattle.rules.specs.declared.Refusal.{Refusal}
 use Rattle.rules.specs.declared.Refusal.TheVariants.{ShortBuffer, BadRecord, GenerationsExhausted, HandoffTooLong}
-use Rattle.rules.specs.Lists.{Bytes, if◌then◌else◌}
+use Rattle.rules.specs.Lists.{Bytes}
 use Rattle.rules.specs.Handoff.{Command}
 use Rattle.rules.specs.Calls.{commands}
 use Rattle.events.specs.declared.Stop.{Stop}

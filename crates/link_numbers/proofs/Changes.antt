@@ -1,4 +1,5 @@
 -- Sets of numbers that change in place: what a loop keeps, and what is there at its end. Assumes nothing.
+use Rattle.std.specs.Prelude.{if◌then◌else◌}
 use Prim.Native.Nat.{ℕ, ◌+◌, ◌-◌, ◌*◌, ◌≤◌, ◌<◌}
 use mathlib.Core.Path.{◌≡◌, sym, ap, ◌∙◌, subst}
 use mathlib.Core.Bool.{Bool, true}
@@ -11,7 +12,7 @@ use Rattle.stores.specs.Placed.{placed}
 use Rattle.events.specs.Written.{Listed}
 use Rattle.stores.proofs.Runs.{Down, raise_none, raise_more, down-all}
 use Rattle.stores.proofs.Sifts.{Sifted, sifted_none, sifted_more}
-use Rattle.rules.specs.Lists.{if◌then◌else◌, kept, put, itself}
+use Rattle.rules.specs.Lists.{kept, put, itself}
 use Rattle.rules.specs.Commits.{releases_ack}
 use Rattle.rules.specs.Events.{send_ack}
 use Rattle.rules.specs.Sound.{ascending}

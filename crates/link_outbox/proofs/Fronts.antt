@@ -1,4 +1,5 @@
 -- An ack that lets the oldest messages go, and nothing else: they are dropped at once. Assumes nothing.
+use Rattle.std.specs.Prelude.{if◌then◌else◌}
 use mathlib.Core.Path.{◌≡◌, refl, sym, ap, ◌∙◌, subst}
 use mathlib.Core.Bool.{Bool, true, false}
 use mathlib.Core.List.{List, [], ◌∷◌, ◌++◌, append-nil}
@@ -13,7 +14,7 @@ use Rattle.stores.specs.Packed.{cut}
 use Rattle.stores.specs.Placed.{placed}
 use Rattle.stores.proofs.Laws.{length-placed, take-placed-end, drop_placed_ge, placed-none}
 use Rattle.stores.proofs.Packs.{slice-none, total-none, total_split, cut-same, drop-cut, length_cut}
-use Rattle.rules.specs.Lists.{Bytes, if◌then◌else◌, kept, total}
+use Rattle.rules.specs.Lists.{Bytes, kept, total}
 use Rattle.rules.specs.State as R
 use Rattle.rules.specs.Acks.{survives}
 use Rattle.rules.proofs.Lists.{kept_append}

@@ -1,4 +1,5 @@
 -- When the tests of `sound` pass. Assumes nothing.
+use Rattle.std.specs.Prelude.{if◌then◌else◌}
 use mathlib.Core.Path.{◌≡◌, refl, sym, ap, ◌∙◌}
 use mathlib.Core.Bool.{Bool, true, false}
 use mathlib.Core.List.{List, [], ◌∷◌}
@@ -10,7 +11,7 @@ use lib.ListN.{length, take, get_or}
 use lib.Seq.{slice, get_or-take, length-take-le}
 use lib.Dec.{eqb, ltb}
 use borrow.Author.Tests.{lt-ltb, le-ltb, ltb-true, eq-eqb, ne_eqb, eqb-true}
-use Rattle.rules.specs.Lists.{if◌then◌else◌, all, total, rising}
+use Rattle.rules.specs.Lists.{all, total, rising}
 use Rattle.rules.proofs.Lists.{and_left, and_right, and_both}
 use Rattle.stores.proofs.Packs.{slice-none}
 use Rattle.outbox.specs.declared.Unacked.{Unacked}

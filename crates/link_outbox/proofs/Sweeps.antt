@@ -1,4 +1,5 @@
 -- A sweep over records that lie in halves and bytes: a turn, and its end. Assumes nothing.
+use Rattle.std.specs.Prelude.{if◌then◌else◌}
 use mathlib.Core.Path.{◌≡◌, sym, ap, ◌∙◌, subst}
 use mathlib.Core.Bool.{Bool}
 use mathlib.Core.List.{List}
@@ -7,7 +8,7 @@ use native.Mathlib.Omega.{arith}
 use lib.ListN.{length, take, drop, get_or, set, replicate}
 use lib.Seq.{get_or-set_same, get_or-set_other}
 use Rattle.stores.specs.Placed.{placed}
-use Rattle.rules.specs.Lists.{Bytes, if◌then◌else◌, kept}
+use Rattle.rules.specs.Lists.{Bytes, kept}
 use Rattle.rules.specs.Acks.{survives}
 use Rattle.outbox.specs.declared.Unacked.{Unacked}
 use Rattle.outbox.specs.View.{len_u, unacked_of, blank_u, ExactOutbox}

@@ -1,8 +1,8 @@
 -- The contracts of the functions that change the unacked messages where they lie: w, h, b are the words, halves and bytes before, and w', h', b' after.
 -- Assumes nothing.
-use Rattle.std.specs.Prelude.{ℕ, ◌+◌, ◌<◌, ◌≡◌, Bool, List, length, set}
+use Rattle.std.specs.Prelude.{ℕ, ◌+◌, ◌<◌, ◌≡◌, Bool, List, length, set, if◌then◌else◌}
 use Rattle.std.proofs.Math.Seq.{slice}
-use Rattle.rules.specs.Lists.{Bytes, if◌then◌else◌, kept, total}
+use Rattle.rules.specs.Lists.{Bytes, kept, total}
 use Rattle.rules.specs.Acks.{survives, sent}
 use Rattle.outbox.specs.View.{unacked_of, used_u}
 use Rattle.outbox.specs.Steps.{Appended, Left, Flagged, Releases, SentIf}

@@ -1,6 +1,6 @@
 -- The unacked messages of a lent session: what a test of them counts, and what a search finds. Assumes nothing.
-use Rattle.std.specs.Prelude.{ℕ, ◌+◌, ◌≤◌, ◌<◌, ◌≡◌, List, [], ◌∷◌, ltb, leb}
-use Rattle.rules.specs.Lists.{if◌then◌else◌, total}
+use Rattle.std.specs.Prelude.{ℕ, ◌+◌, ◌≤◌, ◌<◌, ◌≡◌, List, [], ◌∷◌, ltb, leb, if◌then◌else◌}
+use Rattle.rules.specs.Lists.{total}
 use Rattle.outbox.specs.declared.Unacked.{Unacked}
 use Rattle.outbox.specs.View.{len_u}
 use Rattle.outbox.specs.Records.{survives_u}

@@ -1,9 +1,9 @@
 // The unacked messages of a session that C lends, worked on where they lie. Numbers and pending flags start at index 0 of their parts.
 #![tactic(auto)]
 
-ghost use Rattle.std.specs.Prelude.{◌≡◌, true, false, not, ◌&&◌, ◌||◌, eqb, leb, ltb, List, ℕ, ◌+◌, ◌*◌, ◌≤◌, ◌<◌, length, take};
+ghost use Rattle.std.specs.Prelude.{◌≡◌, true, false, not, ◌&&◌, ◌||◌, eqb, leb, ltb, List, ℕ, ◌+◌, ◌*◌, ◌≤◌, ◌<◌, length, take, if◌then◌else◌};
 ghost use Rattle.std.proofs.Math.Seq.{slice};
-ghost use Rattle.rules.specs.Lists.{if◌then◌else◌, total};
+ghost use Rattle.rules.specs.Lists.{total};
 ghost use Rattle.outbox.specs.Sweeps.{Lowers};
 ghost use Rattle.outbox.specs.View.{len_u};
 ghost use Rattle.outbox.specs.Sound.{sound_outbox_of};

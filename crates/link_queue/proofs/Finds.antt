@@ -1,4 +1,5 @@
 -- A number looked for among those queued. Assumes nothing.
+use Rattle.std.specs.Prelude.{if◌then◌else◌}
 use mathlib.Core.Path.{◌≡◌, refl, sym, ap, ◌∙◌}
 use mathlib.Core.Bool.{Bool, true, false, ◌||◌}
 use mathlib.Core.List.{List, [], ◌∷◌}
@@ -8,7 +9,7 @@ use lib.Dec.{ltb, eqb}
 use borrow.Author.Tests.{lt-ltb, le-leb, lt-leb}
 use Rattle.stores.specs.Fronts.{front}
 use Rattle.stores.proofs.Packs.{total_snoc}
-use Rattle.rules.specs.Lists.{Bytes, if◌then◌else◌, any, total}
+use Rattle.rules.specs.Lists.{Bytes, any, total}
 use Rattle.rules.specs.State.{is_frame}
 use Rattle.queue.specs.declared.Queued.{Queued}
 use Rattle.queue.specs.View.{frames_of}

@@ -1,9 +1,9 @@
 // The frames that came too early, of a session that C lends, worked on where they lie.
 #![tactic(auto)]
 
-ghost use Rattle.std.specs.Prelude.{◌≡◌, true, List, [], ℕ, ◌+◌, ◌-◌, ◌≤◌, eqb, length, take, drop, replicate};
+ghost use Rattle.std.specs.Prelude.{◌≡◌, true, List, [], ℕ, ◌+◌, ◌-◌, ◌≤◌, eqb, length, take, drop, replicate, if◌then◌else◌};
 ghost use Rattle.stores.specs.Placed.{placed};
-ghost use Rattle.rules.specs.Lists.{Bytes, if◌then◌else◌, any, put};
+ghost use Rattle.rules.specs.Lists.{Bytes, any, put};
 ghost use Rattle.rules.specs.State.{is_frame, frame_number};
 ghost use Rattle.queue.specs.View.{frames_of, ExactQueue};
 ghost use Rattle.queue.specs.Steps.{arrived, Leads, Room, with_at};

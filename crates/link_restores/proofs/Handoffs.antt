@@ -1,4 +1,5 @@
 -- The handoff of a restore, where it lies. Assumes nothing.
+use Rattle.std.specs.Prelude.{if◌then◌else◌}
 use Prim.Native.Nat.{ℕ, ◌+◌, ◌≤◌, ◌<◌}
 use mathlib.Core.Path.{◌≡◌, refl, sym, ap, ◌∙◌, subst}
 use mathlib.Core.Bool.{Bool, true, false, true≢false}
@@ -8,7 +9,7 @@ use native.Mathlib.Omega.{arith}
 use lib.ListN.{length, take, drop, set, length-set}
 use lib.Seq.{get_or-set_same, get_or-set_other, get_or-take, get_or-drop, take-take, take_at, drop-set-lt}
 use borrow.Author.Tests.{eq-eqb, ne_eqb}
-use Rattle.rules.specs.Lists.{Bytes, if◌then◌else◌, same}
+use Rattle.rules.specs.Lists.{Bytes, same}
 use Rattle.rules.specs.Answers.{flag_value}
 use Rattle.rules.specs.Start.{handoff_size}
 use Rattle.stores.specs.Placed.{placed}

@@ -1,4 +1,5 @@
 -- A restore on the parts of a session, by what it leaves of them. Assumes nothing.
+use Rattle.std.specs.Prelude.{if◌then◌else◌}
 use Prim.Native.Nat.{ℕ, ◌+◌, ◌≤◌, ◌<◌}
 use mathlib.Core.Path.{◌≡◌, refl, sym, ap, ◌∙◌, subst}
 use mathlib.Core.Bool.{Bool, true, false, not, ◌&&◌, true≢false}
@@ -10,7 +11,7 @@ use lib.ListN.{length, take, length-take, length-drop}
 use Rattle.rules.specs.declared.Answer.TheVariants.{Done, Refused}
 use Rattle.rules.specs.declared.Refusal.{Refusal}
 use Rattle.rules.specs.declared.Refusal.TheVariants.{ShortBuffer, UnknownCode, BadRecord, HandoffTooLong, RestoreTooLate, OtherHandoff}
-use Rattle.rules.specs.Lists.{Bytes, if◌then◌else◌, total, itself}
+use Rattle.rules.specs.Lists.{Bytes, total, itself}
 use Rattle.rules.specs.Start.{good_record, handoff_size, agrees}
 use Rattle.events.specs.declared.Stop.{Stop}
 use Rattle.events.specs.declared.Stop.TheVariants.{No, By}

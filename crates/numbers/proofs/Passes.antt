@@ -1,4 +1,5 @@
 -- Loops over the numbers in use: some are dropped, some are listed. Assumes nothing.
+use Rattle.std.specs.Prelude.{if◌then◌else◌}
 use mathlib.Core.Path.{◌≡◌, refl, sym, ap, ◌∙◌, subst}
 use mathlib.Core.Bool.{Bool, true, false, not}
 use mathlib.Core.List.{List, [], ◌∷◌, ◌++◌, map}
@@ -12,7 +13,7 @@ use borrow.Author.Tests.{eq-eqb, ne_eqb, le-leb, lt-leb}
 use Rattle.stores.specs.Placed.{placed}
 use Rattle.stores.proofs.Packs.{map-append}
 use Rattle.stores.proofs.Sifts.{Sifted, sifted_none, sifted_at, sifted_more, sifted_all, kept_next}
-use Rattle.rules.specs.Lists.{if◌then◌else◌, kept}
+use Rattle.rules.specs.Lists.{kept}
 use Rattle.rules.specs.Events.{Event, send_ack, listed}
 use Rattle.rules.specs.Buffers.{flat}
 use Rattle.rules.specs.Acks.{differs_from}

@@ -1,7 +1,7 @@
 -- Rising arrays of numbers. Assumes nothing.
-use Rattle.std.specs.Prelude.{ℕ, ◌+◌, ◌≤◌, ◌≡◌, Bool, List, map, length, take, ltb}
+use Rattle.std.specs.Prelude.{ℕ, ◌+◌, ◌≤◌, ◌≡◌, Bool, List, map, length, take, ltb, if◌then◌else◌}
 use Rattle.stores.specs.Fronts.{front}
-use Rattle.rules.specs.Lists.{if◌then◌else◌, kept}
+use Rattle.rules.specs.Lists.{kept}
 use Rattle.rules.specs.Commits.{releases_ack}
 use Rattle.rules.specs.Events.{send_ack}
 use Rattle.events.specs.Written.{Listed}

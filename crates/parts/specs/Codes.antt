@@ -1,12 +1,11 @@
 -- Enums as numbers: a stage out of its codes, and an answer as numbers. Assumes nothing.
-use Rattle.std.specs.Prelude.{ℕ, Bool, true, false, not, ◌&&◌, eqb, leb}
+use Rattle.std.specs.Prelude.{ℕ, Bool, true, false, not, ◌&&◌, eqb, leb, if◌then◌else◌}
 use Rattle.rules.specs.declared.Answer.{Answer}
 use Rattle.rules.specs.declared.Answer.TheVariants.{Done, Number, Flag, Prepared, Held, NotHeld, Refused}
 use Rattle.rules.specs.declared.Terms.{Terms}
 use Rattle.rules.specs.declared.Setup.{Setup}
 use Rattle.rules.specs.declared.Setup.TheVariants as Setups
 use Rattle.rules.specs.declared.ReceiveMode.TheVariants.{Raw}
-use Rattle.rules.specs.Lists.{if◌then◌else◌}
 use Rattle.rules.specs.Receiving.{mode_of}
 use Rattle.rules.specs.Answers.{refusal_number, flag_value}
 use Rattle.peer_session.specs.declared.Stage.{Stage}

@@ -1,8 +1,9 @@
 -- A refusal that empties the queue. Assumes nothing.
+use Rattle.std.specs.Prelude.{if◌then◌else◌}
 use mathlib.Core.Path.{◌≡◌, refl, ap, ◌∙◌}
 use mathlib.Core.Bool.{Bool, true, false}
 use mathlib.Core.List.{List, []}
-use Rattle.rules.specs.Lists.{Bytes, if◌then◌else◌}
+use Rattle.rules.specs.Lists.{Bytes}
 use Rattle.rules.specs.State as R
 use Rattle.rules.specs.State.{is_channel, queue_is, failed_is}
 use Rattle.rules.specs.Progress.{broken}

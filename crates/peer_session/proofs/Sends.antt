@@ -1,4 +1,5 @@
 -- A message that joins an outbox, or a refusal that leaves it. Assumes nothing.
+use Rattle.std.specs.Prelude.{if◌then◌else◌}
 use mathlib.Core.Path.{◌≡◌, refl, sym, ap, ◌∙◌}
 use mathlib.Core.Bool.{Bool, true, false, ◌||◌}
 use mathlib.Core.List.{List, [], ◌∷◌, ◌++◌}
@@ -10,7 +11,7 @@ use lib.Dec.{ltb}
 use borrow.Author.Tests.{lt-ltb, le-ltb}
 use Rattle.rules.specs.declared.Refusal.{Refusal}
 use Rattle.rules.specs.declared.Refusal.TheVariants.{NumbersExhausted, UnackedFull}
-use Rattle.rules.specs.Lists.{Bytes, if◌then◌else◌, total, packed}
+use Rattle.rules.specs.Lists.{Bytes, total, packed}
 use Rattle.rules.specs.State as R
 use Rattle.rules.specs.State.{body_of, size_of, outbox_is, disposition_is}
 use Rattle.rules.specs.Clock.{raised}

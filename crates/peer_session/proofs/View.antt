@@ -1,4 +1,5 @@
 -- The view: a session settles what its state asks for, what settles a state is viewed as it, and both are sound together. Assumes nothing.
+use Rattle.std.specs.Prelude.{if◌then◌else◌}
 use mathlib.Core.Path.{◌≡◌, refl, sym, ap, ◌∙◌}
 use mathlib.Core.Bool.{Bool, true, false, ◌&&◌}
 use mathlib.Core.List.{List, [], ◌∷◌, ◌++◌, map}
@@ -9,7 +10,7 @@ use lib.ListN.{length, take, replicate, length-replicate}
 use lib.Seq.{length-take-le}
 use lib.Dec.{leb}
 use borrow.Author.Tests.{le-leb, leb-true}
-use Rattle.rules.specs.Lists.{Bytes, if◌then◌else◌, every, all, packed, rising, itself}
+use Rattle.rules.specs.Lists.{Bytes, every, all, packed, rising, itself}
 use Rattle.rules.specs.State as R
 use Rattle.rules.specs.State.{body_of, frame_body}
 use Rattle.rules.specs.Start.{good_policy, good_reject, handoff_size}

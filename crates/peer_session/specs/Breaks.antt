@@ -1,7 +1,7 @@
 -- The contract of `broken`. Assumes nothing.
-use Rattle.std.specs.Prelude.{ℕ, ◌≡◌, Bool, true, [], length}
+use Rattle.std.specs.Prelude.{ℕ, ◌≡◌, Bool, true, [], length, if◌then◌else◌}
 use Rattle.rules.specs.declared.ReceiveMode.{ReceiveMode}
-use Rattle.rules.specs.Lists.{Bytes, if◌then◌else◌}
+use Rattle.rules.specs.Lists.{Bytes}
 use Rattle.rules.specs.State.{is_channel}
 use Rattle.rules.specs.Progress.{broken}
 use Rattle.queue.specs.View.{Repacked}

@@ -1,9 +1,9 @@
 -- A session with its two stores, as the rule book's state, and what of a session a state settles. Assumes nothing.
-use Rattle.std.specs.Prelude.{ℕ, ◌≤◌, ◌≡◌, Bool, true, false, List, map, length, take}
+use Rattle.std.specs.Prelude.{ℕ, ◌≤◌, ◌≡◌, Bool, true, false, List, map, length, take, if◌then◌else◌}
 use Rattle.std.proofs.Math.Option.{Option, none, some}
 use Rattle.rules.specs.declared.Policy.{Policy}
 use Rattle.rules.specs.declared.Clock.{Clock}
-use Rattle.rules.specs.Lists.{Bytes, if◌then◌else◌}
+use Rattle.rules.specs.Lists.{Bytes}
 use Rattle.rules.specs.State as R
 use Rattle.rules.specs.Start.{handoff_size}
 use Rattle.numbers.specs.Seats.{in_use, ExactNumbers}

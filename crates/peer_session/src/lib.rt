@@ -2,9 +2,8 @@
 // stores that the caller lends.
 #![tactic(auto)]
 
-ghost use Rattle.std.specs.Prelude.{◌≡◌, [], length};
+ghost use Rattle.std.specs.Prelude.{◌≡◌, [], length, if◌then◌else◌};
 ghost use Rattle.numbers.specs.Seats.{Holds};
-ghost use Rattle.rules.specs.Lists.{if◌then◌else◌};
 ghost use Rattle.outbox.specs.View.{ExactOutbox};
 ghost use Rattle.queue.specs.View.{ExactQueue};
 ghost use Rattle.peer_session.specs.Allocates.{Allocates};

@@ -1,4 +1,5 @@
 -- A duplicate. Assumes nothing.
+use Rattle.std.specs.Prelude.{if◌then◌else◌}
 use mathlib.Core.Path.{◌≡◌, refl, sym, ap, ◌∙◌, subst}
 use mathlib.Core.Bool.{Bool, true, false}
 use mathlib.Core.List.{List, [], ◌∷◌, ◌++◌}
@@ -8,7 +9,7 @@ use lib.ListN.{length}
 use borrow.Author.Tests.{le-leb, lt-leb}
 use Rattle.stores.specs.Placed.{placed}
 use Rattle.rules.specs.declared.Clock.{Clock}
-use Rattle.rules.specs.Lists.{Bytes, if◌then◌else◌, packed, put, itself}
+use Rattle.rules.specs.Lists.{Bytes, packed, put, itself}
 use Rattle.rules.specs.State.{Unacked, State}
 use Rattle.rules.specs.Events.{answer_ack, listed}
 use Rattle.rules.specs.Progress.{Progress, goes, stays, ◌then◌, request}

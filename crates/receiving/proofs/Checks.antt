@@ -1,4 +1,5 @@
 -- The checks of data, test by test, and what the rule book makes of them. Assumes nothing.
+use Rattle.std.specs.Prelude.{if◌then◌else◌}
 use mathlib.Core.Path.{◌≡◌, refl, sym, ap, ◌∙◌, subst}
 use mathlib.Core.Bool.{Bool, true, false, not, ◌&&◌}
 use mathlib.Core.List.{List, [], ◌∷◌}
@@ -10,7 +11,7 @@ use borrow.Author.Tests.{le-leb, lt-leb, lt-ltb, le-ltb, leb-true, leb-false, lt
 use Rattle.rules.specs.declared.HostStatus.{HostStatus}
 use Rattle.rules.specs.declared.Refusal.TheVariants.{BodyTooLong, GapTooWide, LastNumber, AcksFull, GenerationsExhausted}
 use Rattle.rules.specs.declared.Answer.TheVariants.{Flag, Refused}
-use Rattle.rules.specs.Lists.{Bytes, if◌then◌else◌, every, any, has}
+use Rattle.rules.specs.Lists.{Bytes, every, any, has}
 use Rattle.rules.specs.State.{Frame, State, is_frame}
 use Rattle.rules.specs.Clock.{at_limit}
 use Rattle.rules.specs.Progress.{Progress, ◌then◌, failing, Outcome, outcome, answers, ◌refuses◌when◌else◌, ◌fails◌when◌else◌}

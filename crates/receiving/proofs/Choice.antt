@@ -1,4 +1,5 @@
 -- Whether data is delivered now or waits, and what the rule book makes of either. Assumes nothing.
+use Rattle.std.specs.Prelude.{if◌then◌else◌}
 use mathlib.Core.Path.{◌≡◌, refl, sym, ap, ◌∙◌, subst}
 use mathlib.Core.Bool.{Bool, true, false, not, ◌&&◌, ◌||◌}
 use mathlib.Core.List.{List, [], ◌∷◌}
@@ -9,7 +10,7 @@ use lib.Dec.{leb, ltb, eqb}
 use borrow.Author.Tests.{eq-eqb, ne_eqb, eqb-true, eqb-false, ltb-true, lt-ltb, le-ltb, le-leb, ltb-false}
 use Rattle.rules.specs.declared.HostStatus.{HostStatus}
 use Rattle.rules.specs.declared.ReceiveMode.{ReceiveMode}
-use Rattle.rules.specs.Lists.{Bytes, if◌then◌else◌, every, kept, rising}
+use Rattle.rules.specs.Lists.{Bytes, every, kept, rising}
 use Rattle.rules.specs.State.{Frame, State, is_proposal, frame_number, is_frame, queue_is}
 use Rattle.rules.specs.Progress.{Progress}
 use Rattle.rules.specs.Receiving.{available, deliverable, terminal, above, other_than, keeping, enqueue, deliver, is_next, at_once, from_ahead, receive_new, queued, queue_full, queue_overrun}

@@ -1,4 +1,5 @@
 -- Data that waits in the queue. Assumes nothing.
+use Rattle.std.specs.Prelude.{if◌then◌else◌}
 use mathlib.Core.Path.{◌≡◌, refl, sym, ap, ◌∙◌, subst}
 use mathlib.Core.Bool.{Bool, true, false, not, ◌||◌}
 use mathlib.Core.List.{List, [], ◌∷◌, ◌++◌}
@@ -14,7 +15,7 @@ use Rattle.stores.proofs.Seats.{put-after}
 use Rattle.rules.specs.declared.HostStatus.{HostStatus}
 use Rattle.rules.specs.declared.Refusal.{Refusal}
 use Rattle.rules.specs.declared.Refusal.TheVariants.{QueueCount, QueueBytes}
-use Rattle.rules.specs.Lists.{Bytes, if◌then◌else◌, every, any, all, total, packed, put}
+use Rattle.rules.specs.Lists.{Bytes, every, any, all, total, packed, put}
 use Rattle.rules.specs.State as R
 use Rattle.rules.specs.State.{Frame, State, frame_number, frame_body, frame_size, is_frame, queue_is}
 use Rattle.rules.specs.Progress.{Progress, goes, stays, halts, ◌then◌, request, failing}

@@ -1,11 +1,11 @@
 -- What becomes of data, by the checks past its kind and the generation, and what the stores reach by it. Assumes nothing.
-use Rattle.std.specs.Prelude.{ℕ, ◌+◌, ◌≤◌, ◌<◌, ◌≡◌, Bool, true, false, not, ◌||◌, List, [], ◌∷◌, length}
+use Rattle.std.specs.Prelude.{ℕ, ◌+◌, ◌≤◌, ◌<◌, ◌≡◌, Bool, true, false, not, ◌||◌, List, [], ◌∷◌, length, if◌then◌else◌}
 use Rattle.rules.specs.declared.HostStatus.{HostStatus}
 use Rattle.rules.specs.declared.Refusal.{Refusal}
 use Rattle.rules.specs.declared.Refusal.TheVariants.{BodyTooLong, GapTooWide, LastNumber, AcksFull}
 use Rattle.rules.specs.declared.Answer.{Answer}
 use Rattle.rules.specs.declared.Answer.TheVariants.{Flag, Refused}
-use Rattle.rules.specs.Lists.{Bytes, if◌then◌else◌, every, put, itself}
+use Rattle.rules.specs.Lists.{Bytes, every, put, itself}
 use Rattle.rules.specs.State.{Frame, State, Unacked}
 use Rattle.rules.specs.Progress.{Progress, ◌then◌, request, halts, failing, Outcome, outcome, answers}
 use Rattle.rules.specs.Receiving.{duplicate, queued, too_long, too_far, past_last, acks_full, queue_full, queue_overrun, terminal, drain, receive_again, at_once, from_ahead, receive_new}

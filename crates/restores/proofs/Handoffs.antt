@@ -1,4 +1,5 @@
 -- The handoff of a restore, beside the one that there is. Assumes nothing.
+use Rattle.std.specs.Prelude.{if◌then◌else◌}
 use mathlib.Core.Path.{◌≡◌, refl, sym, ap, ◌∙◌}
 use mathlib.Core.Bool.{Bool, true, false, ◌&&◌, beq}
 use mathlib.Core.List.{List, [], ◌∷◌, ◌++◌}
@@ -10,7 +11,7 @@ use lib.Seq.{take_at}
 use borrow.Author.Tests.{eq-eqb, ne_eqb}
 use Rattle.rules.specs.declared.Answer.TheVariants.{Done, Refused}
 use Rattle.rules.specs.declared.Refusal.TheVariants.{OtherHandoff}
-use Rattle.rules.specs.Lists.{Bytes, if◌then◌else◌, every, same}
+use Rattle.rules.specs.Lists.{Bytes, every, same}
 use Rattle.rules.specs.State as R
 use Rattle.rules.specs.State.{handoff_is}
 use Rattle.rules.specs.Progress.{stays, halts, outcome, answers}

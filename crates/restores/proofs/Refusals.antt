@@ -1,4 +1,5 @@
 -- A restore that is refused, by anything but 31, leaves the session and the outbound store as they were. Assumes nothing.
+use Rattle.std.specs.Prelude.{if◌then◌else◌}
 use mathlib.Core.Path.{◌≡◌, refl, ap}
 use mathlib.Core.Bool.{Bool, true, false}
 use mathlib.Core.List.{List, []}
@@ -7,7 +8,7 @@ use native.Mathlib.Omega.{arith}
 use lib.ListN.{length, replicate, length-replicate}
 use Rattle.rules.specs.declared.Refusal.TheVariants.{ShortBuffer}
 use Rattle.rules.specs.Answers.{refused_by}
-use Rattle.rules.specs.Lists.{Bytes, if◌then◌else◌, ◌∈◌}
+use Rattle.rules.specs.Lists.{Bytes, ◌∈◌}
 use Rattle.rules.specs.Calls.{Call, restores}
 use Rattle.rules.specs.Refusals.{excepted}
 use Rattle.rules.specs.Buffers.{taken_by}

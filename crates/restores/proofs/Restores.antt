@@ -1,4 +1,5 @@
 -- `restore`, test by test, and how it meets its promise. Assumes nothing.
+use Rattle.std.specs.Prelude.{if◌then◌else◌}
 use mathlib.Core.Path.{◌≡◌, refl, sym, ap, ◌∙◌}
 use mathlib.Core.Bool.{Bool, true, false, not, ◌&&◌}
 use mathlib.Core.List.{List, [], ◌∷◌}
@@ -12,7 +13,7 @@ use borrow.Author.Tests.{lt-ltb, le-ltb, eq-eqb, ne_eqb}
 use Rattle.rules.specs.declared.Answer.TheVariants.{Done, Refused}
 use Rattle.rules.specs.declared.Refusal.{Refusal}
 use Rattle.rules.specs.declared.Refusal.TheVariants.{ShortBuffer, UnknownCode, BadRecord, HandoffTooLong, RestoreTooLate}
-use Rattle.rules.specs.Lists.{Bytes, if◌then◌else◌, empty, packed}
+use Rattle.rules.specs.Lists.{Bytes, empty, packed}
 use Rattle.rules.specs.State as R
 use Rattle.rules.specs.State.{body_of}
 use Rattle.rules.specs.Progress.{Outcome, outcome, answers, ◌refuses◌when◌else◌}

@@ -1,5 +1,6 @@
 -- "A refusal returns its number, lists nothing and changes nothing, except": a call that is refused by no number that document 01 excepts leaves the
 -- state as it was and lists nothing. Assumes nothing.
+use Rattle.std.specs.Prelude.{if◌then◌else◌}
 use mathlib.Core.Path.{◌≡◌, refl, ap}
 use mathlib.Core.Bool.{Bool, true, false, not, ◌&&◌}
 use mathlib.Core.List.{List, []}
@@ -19,7 +20,7 @@ use Rattle.rules.specs.declared.Refusal.TheVariants.{NumbersExhausted, UnackedFu
 use Rattle.rules.specs.declared.Answer.{Answer}
 use Rattle.rules.specs.declared.Answer.TheVariants.{Done, Number, Flag}
 use Rattle.rules.specs.Answers.{refusal_number, refused_by}
-use Rattle.rules.specs.Lists.{Bytes, if◌then◌else◌, empty, ◌∈◌}
+use Rattle.rules.specs.Lists.{Bytes, empty, ◌∈◌}
 use Rattle.rules.specs.Limits.{active}
 use Rattle.rules.specs.State.{Frame, Handoff, State, mode_is}
 use Rattle.rules.specs.Clock.{at_limit}

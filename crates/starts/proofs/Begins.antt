@@ -1,4 +1,5 @@
 -- The session and the stores that a start leaves, and its promise. Assumes nothing.
+use Rattle.std.specs.Prelude.{if◌then◌else◌}
 use mathlib.Core.Path.{◌≡◌, refl, sym, ap, ◌∙◌}
 use mathlib.Core.Bool.{Bool, true, false, ◌||◌}
 use mathlib.Core.List.{List, [], ◌++◌, map, append-nil}
@@ -12,7 +13,7 @@ use Rattle.rules.specs.declared.Answer.TheVariants.{Done, Refused}
 use Rattle.rules.specs.declared.Policy.{Policy}
 use Rattle.rules.specs.declared.Refusal.{Refusal}
 use Rattle.rules.specs.declared.Refusal.TheVariants.{ShortBuffer}
-use Rattle.rules.specs.Lists.{Bytes, if◌then◌else◌, total, itself, packed}
+use Rattle.rules.specs.Lists.{Bytes, total, itself, packed}
 use Rattle.rules.specs.State as R
 use Rattle.rules.specs.State.{body_of}
 use Rattle.rules.specs.Start.{Reliable, Start, started, unstarted, start, new, as_sent}

@@ -1,4 +1,5 @@
 -- Refusals 1, 2 and 3 of a start, test by test. Assumes nothing.
+use Rattle.std.specs.Prelude.{if◌then◌else◌}
 use mathlib.Core.Path.{◌≡◌, refl, sym, ap, ◌∙◌}
 use mathlib.Core.Bool.{Bool, true, false, not, ◌&&◌, ◌||◌}
 use mathlib.Core.List.{List, [], ◌∷◌}
@@ -10,7 +11,7 @@ use borrow.Author.Tests.{le-leb, lt-leb, lt-ltb, le-ltb, ltb-true, ltb-false, le
 use Rattle.rules.specs.declared.Policy.{Policy}
 use Rattle.rules.specs.declared.Refusal.{Refusal}
 use Rattle.rules.specs.declared.Refusal.TheVariants.{ShortBuffer, UnknownCode, BadRecord}
-use Rattle.rules.specs.Lists.{Bytes, if◌then◌else◌, every, total, itself, all, rising}
+use Rattle.rules.specs.Lists.{Bytes, every, total, itself, all, rising}
 use Rattle.rules.specs.Start.{Reliable, started, unstarted, start, new, good_messages, good_record, good_policy, good_reject}
 use Rattle.rules.proofs.Lists.{and_left, and_right, Every, every_true}
 use Rattle.starts.specs.declared.Reliable as Code

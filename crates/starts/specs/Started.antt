@@ -1,9 +1,9 @@
 -- What a start promises: one equation with the rule book, for every record and buffer. Assumes nothing.
-use Rattle.std.specs.Prelude.{ℕ, ◌≡◌, Bool, true, false, ◌||◌, List, [], ◌∷◌, length, take, drop, ltb}
+use Rattle.std.specs.Prelude.{ℕ, ◌≡◌, Bool, true, false, ◌||◌, List, [], ◌∷◌, length, take, drop, ltb, if◌then◌else◌}
 use Rattle.rules.specs.declared.Answer.TheVariants.{Done, Refused}
 use Rattle.rules.specs.declared.Policy.{Policy}
 use Rattle.rules.specs.declared.Refusal.TheVariants.{ShortBuffer}
-use Rattle.rules.specs.Lists.{Bytes, if◌then◌else◌, total, itself}
+use Rattle.rules.specs.Lists.{Bytes, total, itself}
 use Rattle.rules.specs.State.{Message}
 use Rattle.rules.specs.Start.{Reliable, Start, started, unstarted, start}
 use Rattle.rules.specs.Buffers.{Lent, takes, short, new_stores}

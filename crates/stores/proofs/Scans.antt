@@ -1,4 +1,5 @@
 -- A loop over the elements from index i up to, not including, index n: what is asked of them, by the test of the first. Assumes nothing.
+use Rattle.std.specs.Prelude.{if◌then◌else◌}
 use mathlib.Core.Path.{◌≡◌, ap, ◌∙◌}
 use mathlib.Core.Bool.{Bool, true, false, ◌||◌, ◌&&◌}
 use mathlib.Core.List.{List}
@@ -6,7 +7,7 @@ use Prim.Native.Nat.{ℕ, suc, ◌+◌, ◌≤◌, ◌<◌}
 use lib.ListN.{length, get_or}
 use lib.Seq.{slice}
 use borrow.Author.Tests.{lt-ltb, le-ltb}
-use Rattle.rules.specs.Lists.{if◌then◌else◌, any, all, rising}
+use Rattle.rules.specs.Lists.{any, all, rising}
 use Rattle.stores.specs.Admitted.{admitted}
 use Rattle.stores.specs.Fronts.{front}
 use Rattle.stores.proofs.Packs.{slice-step, slice-none}

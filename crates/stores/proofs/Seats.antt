@@ -1,4 +1,5 @@
 -- Where an element goes by its number, and a front that goes. Assumes nothing.
+use Rattle.std.specs.Prelude.{if◌then◌else◌}
 use mathlib.Core.Path.{◌≡◌, refl, sym, ap, ◌∙◌}
 use mathlib.Core.Bool.{Bool, true, false, ◌||◌, true≢false}
 use mathlib.Core.List.{List, [], ◌∷◌, ◌++◌}
@@ -7,7 +8,7 @@ use native.Mathlib.Omega.{arith}
 use lib.ListN.{length, take, drop, get_or}
 use lib.Dec.{ltb, leb, eqb}
 use borrow.Author.Tests.{lt-ltb, le-ltb, leb-true, leb-false, ltb-true, ltb-false, eqb-false}
-use Rattle.rules.specs.Lists.{if◌then◌else◌, any, kept, put, rising}
+use Rattle.rules.specs.Lists.{any, kept, put, rising}
 use Rattle.rules.proofs.Lists.{if_rule, and_left, and_right}
 use Rattle.stores.specs.Fronts.{front}
 

@@ -1,6 +1,7 @@
 -- What a loop keeps that drops elements from an array in one pass, with two cursors: each element in turn is stored at the lower cursor, which goes
 -- on where the element passes a test. `Sifted p l₀ n l i k`: of the first i of n elements of l₀ the k that pass stand at the front of l, and those
 -- from index i on are as they were. Assumes nothing.
+use Rattle.std.specs.Prelude.{if◌then◌else◌}
 use mathlib.Core.Path.{◌≡◌, refl, sym, ap, ◌∙◌}
 use mathlib.Core.Bool.{Bool, true, false}
 use mathlib.Core.List.{List, [], ◌∷◌, ◌++◌, append-nil}
@@ -10,7 +11,7 @@ use native.Mathlib.Nat.{add-zero}
 use native.Mathlib.Numerals.{add-one}
 use lib.ListN.{length, take, drop, get_or, set, length-set}
 use lib.Seq.{take-suc, take-set-le, drop-set-lt, get_or-drop, drop-drop, length-take-le}
-use Rattle.rules.specs.Lists.{if◌then◌else◌, kept}
+use Rattle.rules.specs.Lists.{kept}
 use Rattle.rules.proofs.Lists.{kept_append}
 use Rattle.stores.proofs.Packs.{take_set_snoc}
 

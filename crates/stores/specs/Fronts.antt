@@ -1,6 +1,5 @@
 -- How far a test holds from the front of a list. Assumes nothing.
-use Rattle.std.specs.Prelude.{ℕ, suc, Bool, List, [], ◌∷◌}
-use Rattle.rules.specs.Lists.{if◌then◌else◌}
+use Rattle.std.specs.Prelude.{ℕ, suc, Bool, List, [], ◌∷◌, if◌then◌else◌}
 
 module _ {A : Type 0} where
   -- how many elements pass before the first that does not

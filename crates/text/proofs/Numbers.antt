@@ -1,4 +1,5 @@
 -- The laws of numbers as text. Assumes nothing.
+use Rattle.std.specs.Prelude.{if◌then◌else◌}
 use mathlib.Core.Path.{◌≡◌, refl, sym, ap, ◌∙◌}
 use mathlib.Core.Bool.{Bool, true, false, ◌&&◌}
 use mathlib.Core.List.{List, [], ◌∷◌}
@@ -10,7 +11,7 @@ use lib.Dec.{leb}
 use lib.ListN.{length, drop, get_or, drop_of_length-le}
 use lib.Seq.{drop-cons}
 use borrow.Author.Tests.{ltb-true, leb-true, leb-false, lt-ltb, le-ltb, le-leb, lt-leb, eq-eqb, ne_eqb}
-use Rattle.rules.specs.Lists.{if◌then◌else◌, all}
+use Rattle.rules.specs.Lists.{all}
 use Rattle.text.specs.declared.Number.TheVariants.{Value, Wrong}
 use Rattle.text.specs.Numbers.{digit_of, is_digit_byte, value, onward, number_of, hex16_of}
 

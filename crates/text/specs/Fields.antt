@@ -1,6 +1,6 @@
 -- The fields of a line, one space between two of them, and a line that is gathered from parts of the input. Assumes nothing.
-use Rattle.std.specs.Prelude.{ℕ, ◌+◌, ◌-◌, ◌≤◌, ◌<◌, ◌≡◌, Bool, List, leb, ltb, eqb, length, take, drop}
-use Rattle.rules.specs.Lists.{if◌then◌else◌, before, same}
+use Rattle.std.specs.Prelude.{ℕ, ◌+◌, ◌-◌, ◌≤◌, ◌<◌, ◌≡◌, Bool, List, leb, ltb, eqb, length, take, drop, if◌then◌else◌}
+use Rattle.rules.specs.Lists.{before, same}
 use Rattle.stores.specs.Placed.{placed}
 use Rattle.text.specs.declared.Piece.{Piece}
 

@@ -1,7 +1,6 @@
 -- The bytes in the field after the space at index end, and where that field ends. Assumes nothing.
-use Rattle.std.specs.Prelude.{◌≡◌, ℕ, ◌+◌, List, ltb, length}
+use Rattle.std.specs.Prelude.{◌≡◌, ℕ, ◌+◌, List, ltb, length, if◌then◌else◌}
 use Rattle.std.proofs.Math.Option.{Option, none}
-use Rattle.rules.specs.Lists.{if◌then◌else◌}
 use Rattle.text.specs.declared.Bytes.{Bytes}
 use Rattle.text.specs.declared.Bytes.TheVariants.{Count as Bytes-as-Count, Wrong as Bytes-as-Wrong}
 use Rattle.text.specs.declared.Filled.{Filled}

@@ -1,7 +1,7 @@
 -- Bytes as text: two hex digits each, in lower case, and `-` for none. Assumes nothing.
-use Rattle.std.specs.Prelude.{ℕ, ◌+◌, ◌*◌, ◌%◌, ◌≡◌, Bool, ◌&&◌, not, List, [], ◌∷◌, leb, eqb, length, get_or}
+use Rattle.std.specs.Prelude.{ℕ, ◌+◌, ◌*◌, ◌%◌, ◌≡◌, Bool, ◌&&◌, not, List, [], ◌∷◌, leb, eqb, length, get_or, if◌then◌else◌}
 use Rattle.std.proofs.Math.Option.{Option, none, some}
-use Rattle.rules.specs.Lists.{if◌then◌else◌, all, empty}
+use Rattle.rules.specs.Lists.{all, empty}
 use Rattle.stores.specs.Placed.{placed}
 use Rattle.text.specs.declared.Bytes.{Bytes}
 use Rattle.text.specs.declared.Bytes.TheVariants.{Count, Wrong}

@@ -1,6 +1,6 @@
 -- Numbers as text: the digits of a base up to 16, in lower case, the most significant first. Assumes nothing.
-use Rattle.std.specs.Prelude.{ℕ, ◌+◌, ◌-◌, ◌*◌, Bool, ◌&&◌, List, [], ◌∷◌, leb, ltb, eqb, length}
-use Rattle.rules.specs.Lists.{if◌then◌else◌, all, empty}
+use Rattle.std.specs.Prelude.{ℕ, ◌+◌, ◌-◌, ◌*◌, Bool, ◌&&◌, List, [], ◌∷◌, leb, ltb, eqb, length, if◌then◌else◌}
+use Rattle.rules.specs.Lists.{all, empty}
 use Rattle.text.specs.declared.Number.{Number}
 use Rattle.text.specs.declared.Number.TheVariants.{Value, Wrong}
 

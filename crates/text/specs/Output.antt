@@ -1,6 +1,5 @@
 -- Text put into a buffer. Assumes nothing.
-use Rattle.std.specs.Prelude.{ℕ, ◌+◌, ◌/◌, ◌%◌, ◌≡◌, List, [], ◌∷◌, ltb, length}
-use Rattle.rules.specs.Lists.{if◌then◌else◌}
+use Rattle.std.specs.Prelude.{ℕ, ◌+◌, ◌/◌, ◌%◌, ◌≡◌, List, [], ◌∷◌, ltb, length, if◌then◌else◌}
 use Rattle.stores.specs.Placed.{placed}
 
 -- a buffer that had text up to index n, and has b after it, up to index r

@@ -1,6 +1,5 @@
 -- The number in the field after the space at index end, and where that field ends. Assumes nothing.
-use Rattle.std.specs.Prelude.{ℕ, ◌+◌, List, ltb, length}
-use Rattle.rules.specs.Lists.{if◌then◌else◌}
+use Rattle.std.specs.Prelude.{ℕ, ◌+◌, List, ltb, length, if◌then◌else◌}
 use Rattle.text.specs.declared.Number.{Number}
 use Rattle.text.specs.declared.Number.TheVariants.{Value as Number-as-Value, Wrong as Number-as-Wrong}
 use Rattle.text.specs.declared.Taken.{Taken}

@@ -7,12 +7,10 @@ use Rattle.commits.proofs.complete_commit.Goals as goal
 
 pub returns-then-list-lt-EVENT_WORDS : goal.returns-then-list-lt-EVENT_WORDS
 returns-then-list-lt-EVENT_WORDS c =
-    
     list-short c.args.commit c.args.persisted c.args.s c.args.list.now c.refused.ensures c.if-list-lt-EVENT_WORDS.true
 
 pub returns-then-not-sound : goal.returns-then-not-sound
 returns-then-not-sound c =
-    
     unsound c.args.commit c.args.persisted c.args.s c.args.list.now c.if-list-lt-EVENT_WORDS.false c.refused-then-not-sound.ensures (sym c.sound.ensures.is ∙ c.if-not-sound.true)
 
 pub returns-then-commit-gt-LAST_REMOTE : goal.returns-then-commit-gt-LAST_REMOTE

@@ -43,7 +43,7 @@ pub returns : goal.returns
 returns c =
     drains_as c.leave-2.ensures
     (elim c.drain-test.branch [
-      else-drain-test w ↦ out_empty c.drain.invariant w.drain-test.false
+      | else-drain-test w ↦ out_empty c.drain.invariant w.drain-test.false
       | then-drain-test+then-not-available w ↦ out_unavailable c.drain.invariant w.available.result w.available.ensures w.if-not-available.true
       | then-drain-test+else-not-available+then-number-turn w ↦ out_later c.drain.invariant w.drain-test.true w.if-number-turn.true
       | then-drain-test+else-not-available+else-number-turn+then-not-deliverable w ↦

@@ -16,7 +16,6 @@ returns-then-not-sound c = λ t. unsound _ c.if-list-lt-EVENT_WORDS.false c.if-o
 
 pub returns-then-halves-ge-GENERATION_LIMIT : goal.returns-then-halves-ge-GENERATION_LIMIT
 returns-then-halves-ge-GENERATION_LIMIT c = λ t.
-    
     spent _ c.if-list-lt-EVENT_WORDS.false c.if-outbound-lt-OUTBOUND_BYTES.false c.if-queue-lt-QUEUE_BYTES.false (sym (c.sound.ensures t).is ∙ c.if-not-sound.false) (c.sound.ensures t).full
     (spent_in c.args.words.now c.args.halves.now c.args.bytes.now t c.if-halves-ge-GENERATION_LIMIT.true)
 

@@ -4,75 +4,60 @@ use Rattle.link_arrivals.proofs.enqueue.Goals as goal
 
 pub holds-requires : goal.holds-requires
 holds-requires c =
-    
     topped-later c.args.words.now c.args.halves.now c.args.bytes.now c.args.clock.now c.requires
 
 pub request-n-requires : goal.request-n-requires
 request-n-requires c =
-    
     omega (arith, listed-later c.args.words.now c.args.halves.now c.args.bytes.now c.args.clock.now c.requires)
 
 pub carry-requires : goal.carry-requires
 carry-requires c =
-    
     carrying_kept c.args.words.now c.args.halves.now c.args.bytes.now c.args.clock.now c.requires c.clock_in-c.ensures c.request-n.ensures c.request-n.auto.list
 
 pub returns-then-holds : goal.returns-then-holds
 returns-then-holds c =
-    
     queued_already c.args.words.now c.args.halves.now c.args.bytes.now c.args.clock.now c.requires c.clock_in-c.ensures c.request-n.ensures c.holds.ensures c.if-holds.true c.carry.ensures
 
 pub overflow_add-count : goal.overflow_add-count
 overflow_add-count c =
-    
     omega (arith, few-later c.args.words.now c.args.halves.now c.args.bytes.now c.args.clock.now c.requires)
 
 pub fail-requires : goal.fail-requires
 fail-requires c =
-    
     may_fail c.args.words.now c.args.halves.now c.args.bytes.now c.args.clock.now c.requires
 
 pub returns-then-words-count : goal.returns-then-words-count
 returns-then-words-count c =
-    
     too_many c.args.words.now c.args.halves.now c.args.bytes.now c.args.clock.now c.requires c.holds.ensures c.if-holds.false c.if-words-count.true c.fail.ensures
 
 pub start-end-requires : goal.start-end-requires
 start-end-requires c =
-    
     sums c.args.words.now c.args.halves.now c.args.bytes.now c.args.clock.now c.requires
 
 pub overflow_add-end : goal.overflow_add-end
 overflow_add-end c =
-    
     omega (arith, c.start-end.ensures, (sums c.args.words.now c.args.halves.now c.args.bytes.now c.args.clock.now c.requires).small, body-short c.args.words.now c.args.halves.now c.args.bytes.now c.args.clock.now c.requires)
 
 pub fail-requires-then-words-end : goal.fail-requires-then-words-end
 fail-requires-then-words-end c =
-    
     may_fail c.args.words.now c.args.halves.now c.args.bytes.now c.args.clock.now c.requires
 
 pub returns-then-words-end : goal.returns-then-words-end
 returns-then-words-end c =
-    
     too_long c.args.words.now c.args.halves.now c.args.bytes.now c.args.clock.now c.requires c.holds.ensures c.if-holds.false c.if-words-count.false c.start-end.ensures c.if-words-end.true c.fail-then-words-end.ensures
 
 pub insert-requires : goal.insert-requires
 insert-requires c =
-    
     may_insert c.args.words.now c.args.halves.now c.args.bytes.now c.args.clock.now c.requires c.holds.ensures c.if-holds.false c.if-words-count.false c.start-end.ensures c.if-words-end.false
 
 pub request-n-requires-2 : goal.request-n-requires-2
 request-n-requires-2 c =
-    
     omega (arith, listed-later c.args.words.now c.args.halves.now c.args.bytes.now c.args.clock.now c.requires)
 
 pub carry-requires-2 : goal.carry-requires-2
 carry-requires-2 c =
-    
     carrying_joined c.args.words.now c.args.halves.now c.args.bytes.now c.args.clock.now c.requires c.holds.ensures c.if-holds.false c.if-words-count.false c.start-end.ensures c.if-words-end.false (omega (arith, c.full_words.ensures)) (omega (arith, c.full_bytes.ensures)) c.insert.ensures c.clock_in-c.ensures c.request-n-2.ensures c.request-n-2.auto.list
 
 pub returns : goal.returns
 returns c =
-    
     joined c.args.words.now c.args.halves.now c.args.bytes.now c.args.clock.now c.requires c.holds.ensures c.if-holds.false c.if-words-count.false c.start-end.ensures c.if-words-end.false (omega (arith, c.full_words.ensures)) (omega (arith, c.full_bytes.ensures)) c.insert.ensures c.clock_in-c.ensures c.request-n-2.ensures c.carry-2.ensures

@@ -10,12 +10,10 @@ request-n-requires c = omega (arith, c.requires.0.list, c.emit.auto.list)
 
 pub returns-then-number-words : goal.returns-then-number-words
 returns-then-number-words c =
-    
     answers c.args.number c.args.words.now c.args.halves.now c.args.bytes.now c.args.clock.now c.args.list.now c.clock_in-c.ensures c.if-number-words.true c.emit.ensures c.request-n.ensures
 
 pub put-requires : goal.put-requires
 put-requires c =
-    
     (c.requires.1, fits c.args.number c.args.words.now c.args.halves.now c.args.bytes.now c.args.clock.now c.args.list.now c.requires.0 c.if-number-words.false)
 
 pub request-n-requires-2 : goal.request-n-requires-2
@@ -23,5 +21,4 @@ request-n-requires-2 c = omega (arith, c.requires.0.list)
 
 pub returns : goal.returns
 returns c =
-    
     waits c.args.number c.args.words.now c.args.halves.now c.args.bytes.now c.args.clock.now c.args.list.now (omega (arith, c.full_words.ensures)) (omega (arith, c.full_bytes.ensures)) c.put.ensures c.clock_in-c.ensures c.if-number-words.false c.request-n-2.ensures

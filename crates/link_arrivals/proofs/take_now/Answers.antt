@@ -9,32 +9,26 @@ deliver-a-requires c = ready c.requires.taking
 
 pub abandon-requires : goal.abandon-requires
 abandon-requires c =
-    
     abandoning c.args.words.now c.args.halves.now c.args.bytes.now c.args.clock.now c.requires c.deliver-a.ensures c.in-By.x c.in-By.is c.deliver-a.auto.list
 
 pub up_to-from-requires : goal.up_to-from-requires
 up_to-from-requires c =
-    
     few_now c.args.words.now c.args.halves.now c.args.bytes.now c.args.clock.now c.requires
 
 pub put-requires : goal.put-requires
 put-requires c =
-    
     may_put c.args.words.now c.args.halves.now c.args.bytes.now c.args.clock.now c.requires c.deliver-a.ensures c.in-No.is
 
 pub request-n-requires : goal.request-n-requires
 request-n-requires c =
-    
     may_request c.args.words.now c.args.halves.now c.args.bytes.now c.args.clock.now c.requires c.deliver-a.ensures c.in-No.is c.deliver-a.auto.list
 
 pub carry-requires : goal.carry-requires
 carry-requires c =
-    
     carrying c.args.words.now c.args.halves.now c.args.bytes.now c.args.clock.now c.requires c.deliver-a.ensures c.in-No.is (omega (arith, c.full_words.ensures)) (omega (arith, c.full_bytes.ensures)) c.put.ensures c.up_to-from.ensures c.request-n.ensures (c.request-n.auto.list ∙ c.deliver-a.auto.list) c.deliver-a.auto.delivery
 
 pub returns-in-By : goal.returns-in-By
 returns-in-By c =
-    
     refused c.args.words.now c.args.halves.now c.args.bytes.now c.args.clock.now c.requires c.deliver-a.ensures c.in-By.x c.in-By.is c.abandon.ensures
 
 pub shape_of-list-in-No : goal.shape_of-list-in-No
@@ -45,5 +39,4 @@ shape_of-delivery-in-No c = c.carry.auto.delivery ∙ c.deliver-a.auto.delivery
 
 pub returns-in-No : goal.returns-in-No
 returns-in-No c =
-    
     taken c.args.words.now c.args.halves.now c.args.bytes.now c.args.clock.now c.requires c.deliver-a.ensures c.in-No.is (omega (arith, c.full_words.ensures)) (omega (arith, c.full_bytes.ensures)) c.put.ensures c.up_to-from.ensures c.request-n.ensures c.carry.ensures

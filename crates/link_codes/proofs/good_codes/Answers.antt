@@ -13,12 +13,10 @@ returns-then-setup-eq1 c = let a = c.args in waits (codes_in a.halves.now a.byte
 
 pub returns-then-bytes-ne0 : goal.returns-then-bytes-ne0
 returns-then-bytes-ne0 c =
-    
     let a = c.args in
     bad_initiator (codes_in a.halves.now a.bytes.now) c.if-setup-gt3.false c.if-bytes-gt4.false c.if-setup-eq1.false (flag_up (at a.bytes.now 770) c.if-bytes-ne0.true)
 
 pub returns : goal.returns
 returns c =
-    
     let a = c.args in
     terms_decide (codes_in a.halves.now a.bytes.now) c.if-setup-gt3.false c.if-bytes-gt4.false c.if-setup-eq1.false (flag-down (at a.bytes.now 770) c.if-bytes-ne0.false)

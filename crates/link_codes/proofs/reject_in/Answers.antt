@@ -13,7 +13,5 @@ copy_in-requires c = let room : 4872 + 64 ≤ length c.args.bytes.now = omega (a
 
 pub returns : goal.returns
 returns c = let room : 4872 + 64 ≤ length c.args.bytes.now = omega (arith, c.full_bytes.ensures) in
-   
-    
     ap (λ (l : List ℕ). record { bytes = l; len = at c.args.words.now 14 })
     (copied 4872 64 c.args.bytes.now (room) c.part-held.ensures c.copy_in.new.store c.copy_in.ensures)

@@ -9,7 +9,6 @@ use Rattle.link_commits.proofs.prepare.Goals as goal
 
 pub returns-then-not-sound : goal.returns-then-not-sound
 returns-then-not-sound c =
-    
     prepare_unsound c.args.words.now c.args.halves.now c.args.bytes.now c.args.clock.now (sym (c.sound.ensures c.args.clock.now).is ∙ c.if-not-sound.true) c.refusal.ensures
 
 pub overflow_sub-commit : goal.overflow_sub-commit

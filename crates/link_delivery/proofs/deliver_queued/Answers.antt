@@ -9,7 +9,6 @@ use Rattle.link_delivery.proofs.deliver_queued.Goals as goal
 
 pub deliver-requires : goal.deliver-requires
 deliver-requires c =
-    
     let x = c.args in
     subst (λ (k : ℕ). Ready x.s.turn k (length x.list.now) x.s.events (length x.delivery.now) x.s.at)
     (sym (ap length c.part-body.ensures ∙ part-size x.store.now x.start x.len c.requires.0)) c.requires.1

@@ -13,7 +13,6 @@ start-start-requires c = summing c.args.words.now c.args.halves.now c.args.bytes
 
 pub drain-init : goal.drain-init
 drain-init c =
-    
     turns_in c.args.words.now c.args.halves.now c.args.bytes.now c.requires c.args.status c.start-start.ensures
 
 pub overflow_add-turn : goal.overflow_add-turn
@@ -79,7 +78,7 @@ returns c =
     let v = c.drain.invariant in
     ends_in v
     (elim c.drain-test.branch [
-      else-drain-test w ↦ out_empty v.turns w.drain-test.false
+      | else-drain-test w ↦ out_empty v.turns w.drain-test.false
       | then-drain-test+then-not-available w ↦ out_unavailable v.turns w.available.result w.available.ensures w.if-not-available.true
       | then-drain-test+else-not-available+then-number-turn w ↦ later_in v w.drain-test.true w.if-number-turn.true
       | then-drain-test+else-not-available+else-number-turn+then-not-deliverable w ↦

@@ -13,7 +13,6 @@ start-start-requires c = summing c.args.words.now c.args.halves.now c.args.bytes
 
 pub drain-init : goal.drain-init
 drain-init c =
-    
     raw_none c.args.t c.args.words.now c.args.halves.now c.args.bytes.now c.requires c.start-start.ensures
 
 pub overflow_add-remote : goal.overflow_add-remote
@@ -29,7 +28,6 @@ hand_over-m-requires c =
 
 pub overflow_add-a : goal.overflow_add-a
 overflow_add-a c =
-    
     let r = raw_room c.drain.invariant c.drain-test.true c.size-len.ensures in
     omega (arith, r.bytes, c.drain.invariant.delivery, c.well_formed, c.ranges)
 
@@ -45,11 +43,10 @@ drain-preserved c =
 pub returns : goal.returns
 returns c =
     let v = c.drain.invariant in
-    
     let y = v.turns c.args.status c.requires.there in
     raw_ends v c.requires.there c.reach-turn.ensures
     (elim c.drain-test.branch [
-      else-drain-test w ↦ out_empty y.turns w.drain-test.false
+      | else-drain-test w ↦ out_empty y.turns w.drain-test.false
       | then-drain-test+then-number-remote w ↦ later_in y w.drain-test.true w.if-number-remote.true
     ])
     c.leave.ensures

@@ -8,5 +8,4 @@ returns-then-count-eq0 c = sym (ascends_none c.args.from c.args.count c.args.wor
 
 pub returns : goal.returns
 returns c =
-    
     c.rises.ensures ∙ sym (ascends_some c.args.from c.args.words.now c.args.count (omega arith) (omega arith) c.if-count-eq0.false)

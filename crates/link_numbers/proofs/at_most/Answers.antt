@@ -7,5 +7,4 @@ returns-then-count-eq0 c = most_none c.args.from c.args.words.now c.args.count c
 
 pub returns : goal.returns
 returns c =
-    
     most_last c.args.from c.args.words.now c.args.count (omega arith) (omega arith) c.requires.1 c.args.limit c.if-count-eq0.false

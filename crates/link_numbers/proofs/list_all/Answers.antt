@@ -10,8 +10,6 @@ loop-i-init c = (c.requires.0, all_unlisted (section c.args.from 512 c.args.word
 
 pub loop-i-preserved : goal.loop-i-preserved
 loop-i-preserved c =
-    
-    
     let a = c.args in
     (c.loop-i.invariant.0, listing-on a.from a.words.now c.loop-i.invariant.1 c.loop-i-test.true c.emit.auto.list c.emit.ensures)
 

@@ -11,14 +11,11 @@ loop-i-init c = releasing_in c.args.upto c.args.list.now c.args.n c.requires.0 c
 
 pub overflow_add-k : goal.overflow_add-k
 overflow_add-k c =
-    
     let a = c.args in
     omega (arith, c.loop-i.invariant.releasing.sifted.behind, c.later-k.ensures, step_small (ltb a.upto (at c.loop-i.words (a.from + c.loop-i.i))))
 
 pub loop-i-preserved : goal.loop-i-preserved
 loop-i-preserved c =
-    
-    
     releasing_on c.loop-i.invariant c.loop-i-test.true c.later-k.ensures c.list_one-events.auto.list c.list_one-events.ensures
 
 pub returns : goal.returns

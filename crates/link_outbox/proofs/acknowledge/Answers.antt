@@ -10,7 +10,6 @@ overflow_sub-gone c = let within : c.size.result ≤ at c.args.words.now 1 = ome
 
 pub returns-then-gone-eq0 : goal.returns-then-gone-eq0
 returns-then-gone-eq0 c = let within : c.size.result ≤ at c.args.words.now 1 = omega (arith, c.size.ensures, c.staying-stay.ensures, stay-within c.args.ack c.args.words.now c.args.halves.now c.args.bytes.now c.args.store.now c.requires c.full_words.ensures c.full_halves.ensures c.full_bytes.ensures) in
-   
     shed_none c.args.ack c.args.words.now c.args.halves.now c.args.bytes.now c.args.store.now c.requires c.full_words.ensures c.full_halves.ensures c.full_bytes.ensures
     (omega (arith, within, c.if-gone-eq0.true, c.size.ensures, c.staying-stay.ensures))
 

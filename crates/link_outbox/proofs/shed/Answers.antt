@@ -8,12 +8,10 @@ use Rattle.link_outbox.proofs.shed.Goals as goal
 
 pub used-from-requires : goal.used-from-requires
 used-from-requires c =
-    
     bounded_front c.args.words.now c.args.halves.now c.args.bytes.now c.args.k c.requires.1.few c.requires.0 c.requires.1.small
 
 pub used-end-requires : goal.used-end-requires
 used-end-requires c =
-    
     bounded c.args.words.now c.args.halves.now c.args.bytes.now c.requires.1.few c.requires.1.small
 
 pub overflow_sub-to : goal.overflow_sub-to
@@ -27,7 +25,6 @@ clear-requires c = let reach : c.used-end.result ≤ length c.args.store.now = o
 
 pub returns : goal.returns
 returns c =
-    
     λ ack f. shed_all ack c.args.words.now c.args.halves.now c.args.bytes.now c.args.store.now c.requires.1 c.full_words.ensures c.full_halves.ensures c.full_bytes.ensures
     c.args.k f c.lower_records.new.halves c.lower_records.new.bytes c.lower_records.ensures.0 c.lower_records.ensures.1
     c.used-from.result c.used-end.result (c.used-from.ensures c.args.bytes.now) (c.used-end.ensures c.args.bytes.now)

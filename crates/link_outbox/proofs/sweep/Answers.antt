@@ -6,7 +6,6 @@ use Rattle.link_outbox.proofs.sweep.Goals as goal
 
 pub loop-i-init : goal.loop-i-init
 loop-i-init c =
-    
     (refl, c.requires.few, omega arith, sweeps_none c.args.ack c.args.words.now c.args.halves.now c.args.bytes.now c.args.store.now c.requires c.full_halves.ensures c.full_bytes.ensures)
 
 pub lower_if-end-requires : goal.lower_if-end-requires
@@ -29,6 +28,5 @@ shape_of-store c = c.clear.auto.store ∙ c.loop-i.invariant.3.turns.size
 
 pub returns : goal.returns
 returns c =
-    
     let l = c.loop-i in
     dropped c.args.ack c.args.words.now c.args.halves.now c.args.bytes.now c.args.store.now c.requires c.full_words.ensures l.halves l.bytes l.store l.k l.i l.to l.from l.invariant.3 c.loop-i-test.false c.clear.new.store c.clear.ensures

@@ -6,15 +6,12 @@ use Rattle.link_queue.proofs.clear.Goals as goal
 
 pub start-end-requires : goal.start-end-requires
 start-end-requires c =
-    
     summing c.args.words.now c.args.halves.now c.args.bytes.now (at c.args.words.now 4) (omega arith) c.requires.few c.requires.small
 
 pub clear-requires : goal.clear-requires
 clear-requires c =
-    
     (omega arith, omega (arith, c.start-end.ensures, end-bodies c.args.words.now c.args.halves.now c.args.bytes.now c.requires.few, c.requires.small, c.requires.room))
 
 pub returns : goal.returns
 returns c =
-    
     cleared c.args.words.now c.args.halves.now c.args.bytes.now c.args.store.now c.requires c.full_words.ensures c.start-end.result c.start-end.ensures c.clear.new.store c.clear.ensures

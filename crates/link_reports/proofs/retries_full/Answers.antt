@@ -8,7 +8,6 @@ returns-then-count-lt-MAX_RETRIES c = full_not _ (retry_in c.args.words.now) c.i
 
 pub has-requires : goal.has-requires
 has-requires c =
-    
     record { within = c.requires.within; room = section-room 784 c.args.words.now c.requires.exact.full; few = c.requires.exact.few }
 
 pub returns : goal.returns

@@ -8,5 +8,4 @@ returns-then-v-eq0 c = sym (ascending-none c.args.v c.if-v-eq0.true)
 
 pub returns : goal.returns
 returns c =
-    
     c.rises.ensures ∙ sym (ascending_some c.args.v c.if-v-eq0.false c.requires (omega arith))

@@ -4,5 +4,4 @@ use Rattle.numbers.proofs.put_at.Goals as goal
 
 pub returns : goal.returns
 returns c =
-    
     put-at-is c.args.v c.args.n c.args.at c.requires.1 (omega arith) c.requires.0 c.shift_up-up.result c.shift_up-up.ensures

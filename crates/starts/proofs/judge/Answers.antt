@@ -24,14 +24,12 @@ returns-then-not-good_policy c = let short-of : Bool = short_record c.args.numbe
 
 pub returns-then-not-good_reject : goal.returns-then-not-good_reject
 returns-then-not-good_reject c = let policed : good_policy c.args.policy ≡ true = sym c.good_policy.ensures ∙ c.if-not-good_policy.false in let short-of : Bool = short_record c.args.numbers.now c.args.lengths.now c.args.bodies.now in let long : short-of ≡ false = sym c.short_record.ensures ∙ c.if-short_record.false in let record_of : Reliable = reliable_of c.args.«record» c.args.numbers.now c.args.lengths.now c.args.bodies.now in let told : c.good_record.result ≡ good_record (record_of) = c.good_record.ensures c.args.bodies.now (long) in let fine : good_record (record_of) ≡ true = sym (told) ∙ c.if-not-good_record.false in
-   
     sym
     (by_reject_body _ _ _ (long) c.if-record-gt4.false (fine) (policed) false
     (sym c.good_reject.ensures ∙ c.if-not-good_reject.true))
 
 pub returns : goal.returns
 returns c = let policed : good_policy c.args.policy ≡ true = sym c.good_policy.ensures ∙ c.if-not-good_policy.false in let short-of : Bool = short_record c.args.numbers.now c.args.lengths.now c.args.bodies.now in let long : short-of ≡ false = sym c.short_record.ensures ∙ c.if-short_record.false in let record_of : Reliable = reliable_of c.args.«record» c.args.numbers.now c.args.lengths.now c.args.bodies.now in let told : c.good_record.result ≡ good_record (record_of) = c.good_record.ensures c.args.bodies.now (long) in let fine : good_record (record_of) ≡ true = sym (told) ∙ c.if-not-good_record.false in
-   
     sym
     (by_reject_body _ _ _ (long) c.if-record-gt4.false (fine) (policed) true
     (sym c.good_reject.ensures ∙ c.if-not-good_reject.false))

@@ -29,16 +29,11 @@ body_bytes-n-requires c = let good-at : Type 0 = Good (short_record c.args.numbe
 
 pub fill-requires : goal.fill-requires
 fill-requires c = let good-at : Type 0 = Good (short_record c.args.numbers.now c.args.lengths.now c.args.bodies.now) (reliable_of c.args.«record» c.args.numbers.now c.args.lengths.now c.args.bodies.now) c.args.policy c.args.reject.now in let good : good-at = found-good _ _ _ _ (sym c.judge-found.ensures ∙ c.in_default.is) in let beginning : let a = c.args in Beginning a.«record» a.numbers.now a.lengths.now a.reject.now = good_beginning _ _ _ _ _ _ (good) in
-   
-    
-    
     let l : Long c.args.numbers.now c.args.lengths.now c.args.bodies.now = long_record _ _ _ (good).long in
     (omega (arith, c.body_bytes-n.ensures, l.bytes), omega (arith, c.body_bytes-n.ensures, (beginning).fitting.small, c.if-outbound-lt-OUTBOUND_BYTES.false))
 
 pub returns : goal.returns
 returns c = let good-at : Type 0 = Good (short_record c.args.numbers.now c.args.lengths.now c.args.bodies.now) (reliable_of c.args.«record» c.args.numbers.now c.args.lengths.now c.args.bodies.now) c.args.policy c.args.reject.now in let good : good-at = found-good _ _ _ _ (sym c.judge-found.ensures ∙ c.in_default.is) in
-   
-    
     record_started _ _ _ _ _ _ _ _ c.if-outbound-lt-OUTBOUND_BYTES.false c.if-queue-lt-QUEUE_BYTES.false c.begun-session.result _ _ (good) c.begun-session.ensures
     (c.fill.ensures ∙ ap (λ (n : ℕ). filled (length c.args.outbound.now) (take n c.args.bodies.now)) c.body_bytes-n.ensures)
     c.clear.ensures
