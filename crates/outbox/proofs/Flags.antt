@@ -1,4 +1,5 @@
 -- Flags of records are changed, and their numbers and bodies are not. Assumes nothing.
+use Rattle.std.specs.Prelude.{if◌then◌else◌}
 use mathlib.Core.Path.{◌≡◌, refl, sym, ap, ◌∙◌}
 use mathlib.Core.Bool.{Bool, true, false, ◌||◌}
 use mathlib.Core.List.{List, [], ◌∷◌, map}
@@ -9,7 +10,7 @@ use lib.Dec.{eqb}
 use borrow.Author.Tests.{lt-ltb, le-ltb}
 use Rattle.stores.specs.Packed.{cut}
 use Rattle.stores.proofs.Runs.{Mapped, mapped_none, mapped_later, mapped_more, mapped_all}
-use Rattle.rules.specs.Lists.{Bytes, if◌then◌else◌, total}
+use Rattle.rules.specs.Lists.{Bytes, total}
 use Rattle.rules.specs.State as R
 use Rattle.rules.specs.Acks.{sent}
 use Rattle.rules.specs.Commits.{release}

@@ -1,5 +1,6 @@
 -- Sends that are listed: a loop over the records lists code 8 for those that pass a test, and the rule book's words point to the same bytes.
 -- Assumes nothing.
+use Rattle.std.specs.Prelude.{if◌then◌else◌}
 use mathlib.Core.Path.{◌≡◌, refl, sym, ap, ◌∙◌, subst, subst⁻¹}
 use mathlib.Core.Bool.{Bool, true, false}
 use mathlib.Core.List.{List, [], ◌∷◌, ◌++◌, map, map-append}
@@ -15,7 +16,7 @@ use Rattle.stores.specs.Packed.{cut}
 use Rattle.stores.specs.Placed.{placed}
 use Rattle.stores.proofs.Laws.{placed-none}
 use Rattle.stores.proofs.Packs.{take-cut, cut-append, length_cut, total_split, total-step}
-use Rattle.rules.specs.Lists.{Bytes, if◌then◌else◌, kept, before, total, rising}
+use Rattle.rules.specs.Lists.{Bytes, kept, before, total, rising}
 use Rattle.rules.specs.State as R
 use Rattle.rules.specs.State.{size_of, is_number, start_of}
 use Rattle.rules.specs.Events.{Event, message, commit_requested, acknowledged, rejection_acknowledged, keepalive, committed, failure, send_data, send_ack, answer_ack, listed}

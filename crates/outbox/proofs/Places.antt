@@ -1,4 +1,5 @@
 -- Where the body of a number lies, by the records and by the rule book. Assumes nothing.
+use Rattle.std.specs.Prelude.{if◌then◌else◌}
 use mathlib.Core.Path.{◌≡◌, refl, sym, ap, ◌∙◌}
 use mathlib.Core.Bool.{Bool, true, false}
 use mathlib.Core.List.{List, [], ◌∷◌}
@@ -13,7 +14,7 @@ use borrow.Author.Tests.{eq-eqb, ne_eqb}
 use Rattle.stores.specs.Packed.{cut}
 use Rattle.stores.proofs.Packs.{slice-step, slice-none}
 use Rattle.rules.specs.declared.Answer.TheVariants.{Held}
-use Rattle.rules.specs.Lists.{Bytes, if◌then◌else◌, first, before, total}
+use Rattle.rules.specs.Lists.{Bytes, first, before, total}
 use Rattle.rules.specs.State.{size_of, is_number, held, start_of}
 use Rattle.rules.specs.Replay.{place}
 use Rattle.outbox.specs.declared.Unacked.{Unacked}

@@ -1,4 +1,5 @@
 -- A turn of a sweep, and its end. Assumes nothing.
+use Rattle.std.specs.Prelude.{if◌then◌else◌}
 use mathlib.Core.Path.{◌≡◌, refl, sym, ap, ◌∙◌, subst}
 use mathlib.Core.Bool.{Bool, true, false}
 use mathlib.Core.List.{List, [], ◌∷◌, ◌++◌, append_assoc, append-nil}
@@ -12,7 +13,7 @@ use Rattle.rules.specs.Buffers.{repacked}
 use Rattle.stores.specs.Placed.{placed}
 use Rattle.stores.proofs.Laws.{length-placed, take_placed_le, drop-placed, drop_placed_ge}
 use Rattle.stores.proofs.Packs.{slice-step, slice-none, total-step, total-none, total_snoc, cut-append, cut-same, packed-cut, take_set_snoc, slice_set, repacked_shrunk}
-use Rattle.rules.specs.Lists.{Bytes, if◌then◌else◌, kept, packed, total}
+use Rattle.rules.specs.Lists.{Bytes, kept, packed, total}
 use Rattle.rules.specs.State as R
 use Rattle.rules.specs.State.{body_of}
 use Rattle.rules.specs.Acks.{survives}

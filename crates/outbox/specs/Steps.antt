@@ -1,8 +1,8 @@
 -- The contracts of `outbox`. Assumes nothing.
-use Rattle.std.specs.Prelude.{ℕ, ◌+◌, ◌*◌, ◌≤◌, ◌<◌, ◌≡◌, Bool, List, [], ◌∷◌, ◌++◌, map, length}
+use Rattle.std.specs.Prelude.{ℕ, ◌+◌, ◌*◌, ◌≤◌, ◌<◌, ◌≡◌, Bool, List, [], ◌∷◌, ◌++◌, map, length, if◌then◌else◌}
 use Rattle.rules.specs.Buffers.{repacked}
 use Rattle.stores.specs.Placed.{placed}
-use Rattle.rules.specs.Lists.{Bytes, if◌then◌else◌, kept, packed}
+use Rattle.rules.specs.Lists.{Bytes, kept, packed}
 use Rattle.rules.specs.State as R
 use Rattle.rules.specs.State.{body_of}
 use Rattle.rules.specs.Sending.{fresh}

@@ -1,9 +1,9 @@
 -- A sweep over the records, which drops some and moves the others down: what it keeps from turn to turn. Assumes nothing.
-use Rattle.std.specs.Prelude.{ℕ, ◌+◌, ◌≤◌, ◌≡◌, Bool, List, ◌++◌, length, take, drop}
+use Rattle.std.specs.Prelude.{ℕ, ◌+◌, ◌≤◌, ◌≡◌, Bool, List, ◌++◌, length, take, drop, if◌then◌else◌}
 use Rattle.std.proofs.Math.Seq.{slice}
 use Rattle.stores.specs.Packed.{cut}
 use Rattle.stores.specs.Placed.{placed}
-use Rattle.rules.specs.Lists.{Bytes, if◌then◌else◌, kept, total}
+use Rattle.rules.specs.Lists.{Bytes, kept, total}
 use Rattle.rules.specs.State as R
 use Rattle.rules.specs.Acks.{survives}
 use Rattle.outbox.specs.declared.Unacked.{Unacked}

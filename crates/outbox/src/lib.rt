@@ -1,9 +1,9 @@
 // The unacked messages: records by rising number in an array, their bodies packed in the outbound store that the caller lends.
 #![tactic(auto)]
 
-ghost use Rattle.std.specs.Prelude.{◌≡◌, Bool, true, false, ◌∷◌, [], ◌+◌, ◌*◌, ◌≤◌, ◌<◌, length, take, drop};
+ghost use Rattle.std.specs.Prelude.{◌≡◌, Bool, true, false, ◌∷◌, [], ◌+◌, ◌*◌, ◌≤◌, ◌<◌, length, take, drop, if◌then◌else◌};
 ghost use Rattle.stores.specs.Placed.{placed};
-ghost use Rattle.rules.specs.Lists.{kept, if◌then◌else◌};
+ghost use Rattle.rules.specs.Lists.{kept};
 ghost use Rattle.rules.specs.Acks.{survives, sent};
 ghost use Rattle.outbox.specs.View.{end_u, used_u, unacked_of, ExactOutbox};
 ghost use Rattle.outbox.specs.Sound.{admits_unacked, sound_unacked, sound_outbox_of};

@@ -1,7 +1,7 @@
+use Rattle.std.specs.Prelude.{if◌then◌else◌}
 use mathlib.Core.Path.{sym, ap}
 use mathlib.Core.Bool.{Bool}
 use Prim.Native.Nat.{◌+◌}
-use Rattle.rules.specs.Lists.{if◌then◌else◌}
 use Rattle.outbox.proofs.count_if.Goals as goal
 
 pub returns-then-stays : goal.returns-then-stays

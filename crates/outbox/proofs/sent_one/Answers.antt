@@ -1,7 +1,7 @@
+use Rattle.std.specs.Prelude.{if◌then◌else◌}
 use mathlib.Core.Path.{sym, ap}
 use mathlib.Core.Bool.{Bool, false}
 use borrow.Author.Tests.{eq-eqb, ne_eqb}
-use Rattle.rules.specs.Lists.{if◌then◌else◌}
 use Rattle.outbox.specs.declared.Unacked.{Unacked}
 use Rattle.outbox.proofs.sent_one.Goals as goal
 
