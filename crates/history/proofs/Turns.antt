@@ -26,7 +26,6 @@ use Rattle.rules.specs.Lists.{◌∈◌, All}
 use Rattle.rules.proofs.Ranges.{Within}
 use Rattle.rules.proofs.Model
 use Rattle.rules.proofs.Model.{fetch_held, msgs_held, numbers_held}
-use Rattle.rules.proofs.Step
 use Rattle.rules.proofs.Step.{Step, Effect, Sane}
 use Rattle.history.proofs.StepLaws.{rises, held-frames}
 use Rattle.rules.proofs.Core.{core, held_of}

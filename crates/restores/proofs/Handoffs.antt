@@ -2,25 +2,25 @@
 use Rattle.std.specs.Prelude.{if◌then◌else◌}
 use mathlib.Core.Path.{◌≡◌, refl, sym, ap, ◌∙◌}
 use mathlib.Core.Bool.{Bool, true, false, ◌&&◌, beq}
-use mathlib.Core.List.{List, [], ◌∷◌, ◌++◌}
+use mathlib.Core.List.{[]}
 use mathlib.Core.Option.{Option, none, some}
 use Prim.Native.Nat.{ℕ, ◌+◌, ◌≤◌}
 use native.Mathlib.Omega.{arith}
 use lib.ListN.{length, take, drop, replicate, length-replicate}
 use lib.Seq.{take_at}
 use borrow.Author.Tests.{eq-eqb, ne_eqb}
-use Rattle.rules.specs.declared.Answer.TheVariants.{Done, Refused}
+use Rattle.rules.specs.declared.Answer.TheVariants.{Done}
 use Rattle.rules.specs.declared.Refusal.TheVariants.{OtherHandoff}
-use Rattle.rules.specs.Lists.{Bytes, every, same}
+use Rattle.rules.specs.Lists.{Bytes, same}
 use Rattle.rules.specs.State as R
 use Rattle.rules.specs.State.{handoff_is}
-use Rattle.rules.specs.Progress.{stays, halts, outcome, answers}
+use Rattle.rules.specs.Progress.{outcome}
 use Rattle.rules.specs.Start.{handoff_size, same_handoff, agrees, restore_terminal}
 use Rattle.stores.specs.Placed.{placed}
 use Rattle.stores.proofs.Laws.{length-placed}
 use Rattle.peer_session.specs.declared.TerminalHandoff.{TerminalHandoff}
 use Rattle.peer_session.specs.declared.SessionState.{SessionState}
-use Rattle.peer_session.specs.View.{handoff_of, handoff_length, state_of, Exact}
+use Rattle.peer_session.specs.View.{handoff_of, handoff_length, state_of}
 use Rattle.peer_session.specs.New.{NoHandoff}
 use Rattle.session.specs.declared.Returned.{Returned}
 use Rattle.session.specs.Promise.{Turned}

@@ -9,7 +9,6 @@ use lib.ListN.{length, replicate, length-replicate}
 use Rattle.rules.specs.declared.Refusal.TheVariants.{ShortBuffer}
 use Rattle.rules.specs.Lists.{Bytes}
 use Rattle.rules.specs.Calls.{Call, restores}
-use Rattle.rules.specs.Buffers.{Lent}
 use Rattle.peer_session.specs.declared.SessionState.{SessionState}
 use Rattle.peer_session.specs.View.{held}
 use Rattle.peer_session.specs.Sound.{sound_of, Full}

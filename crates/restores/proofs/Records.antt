@@ -1,6 +1,5 @@
 -- The record is taken. Assumes nothing.
 use mathlib.Core.Path.{◌≡◌, refl, sym, ap, ◌∙◌}
-use mathlib.Core.Bool.{Bool, true, false}
 use mathlib.Core.List.{List, ◌++◌, map, append_assoc}
 use Prim.Native.Nat.{ℕ, ◌+◌, ◌-◌, ◌≤◌, ◌<◌, max}
 use native.Mathlib.Omega.{arith}
@@ -8,7 +7,6 @@ use native.Mathlib.Nat.{zero-add}
 use lib.ListN.{length, take, drop, replicate, length-append, length-replicate}
 use lib.Seq.{length-take-le, take_at}
 use Rattle.rules.specs.Lists.{Bytes, total, itself, packed}
-use Rattle.rules.specs.State as R
 use Rattle.rules.specs.State.{body_of}
 use Rattle.rules.specs.Start.{as_sent, restored}
 use Rattle.rules.specs.Buffers.{repacked}
@@ -16,10 +14,9 @@ use Rattle.stores.specs.Placed.{placed}
 use Rattle.stores.proofs.Laws.{placed-placed}
 use Rattle.stores.proofs.Packs.{repacked-grown, repacked_shrunk, length-repacked}
 use Rattle.outbox.specs.declared.Outbox.{Outbox}
-use Rattle.outbox.specs.View.{len_u, end_u, unacked_of, ExactOutbox}
+use Rattle.outbox.specs.View.{len_u, end_u, unacked_of}
 use Rattle.outbox.proofs.View.{packed-unacked, unacked-only}
 use Rattle.peer_session.specs.declared.SessionState.{SessionState}
-use Rattle.peer_session.specs.View.{state_of}
 use Rattle.peer_session.proofs.Held.{outbox_cong, state_cong}
 use Rattle.starts.specs.declared.Reliable.{Reliable}
 use Rattle.starts.specs.Started.{messages_of}

@@ -4,9 +4,9 @@ use mathlib.Core.Path.{◌≡◌, refl, sym, ap, ◌∙◌}
 use mathlib.Core.Bool.{Bool, true, false, not, ◌&&◌}
 use mathlib.Core.List.{List, [], ◌∷◌}
 use mathlib.Core.Option.{Option, none, some}
-use Prim.Native.Nat.{ℕ, suc, ◌≤◌, ◌<◌}
+use Prim.Native.Nat.{ℕ, ◌≤◌, ◌<◌}
 use native.Mathlib.Omega.{arith}
-use lib.ListN.{length, take, replicate, length-replicate}
+use lib.ListN.{length, replicate, length-replicate}
 use lib.Seq.{length-take-le}
 use lib.Dec.{eqb}
 use borrow.Author.Tests.{lt-ltb, le-ltb, eq-eqb, ne_eqb}
@@ -31,10 +31,9 @@ use Rattle.peer_session.specs.View.{held, handoff_length, state_of, Exact}
 use Rattle.peer_session.specs.Sound.{sound_of, Full}
 use Rattle.peer_session.proofs.View.{parts}
 use Rattle.session.specs.declared.Returned.{Returned}
-use Rattle.session.specs.Promise.{Exit, exit, lent, unchanged, promise, Called, Turned}
+use Rattle.session.specs.Promise.{exit, lent, unchanged, promise, Called, Turned}
 use Rattle.session.proofs.Lengths.{short-outbound, long-enough, not_taken}
 use Rattle.session.proofs.Entry.{Entered, entered, is-short, is_wrong}
-use Rattle.setup.specs.Steps.{Comes}
 use Rattle.setup.proofs.Lending.{Plain, unsound, refused, comes}
 use Rattle.setup.proofs.Steps.{turned_is}
 use Rattle.starts.specs.declared.Reliable as Starts

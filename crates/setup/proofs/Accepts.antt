@@ -1,5 +1,5 @@
 -- `accept_session`, `reject_session` and `prepare_channel`, test by test. Assumes nothing.
-use mathlib.Core.Path.{◌≡◌, refl, sym, ap, ◌∙◌}
+use mathlib.Core.Path.{◌≡◌, refl, ap}
 use mathlib.Core.Bool.{Bool, true, false}
 use mathlib.Core.List.{List, []}
 use Prim.Native.Nat.{ℕ, ◌≤◌, ◌<◌}
@@ -8,15 +8,13 @@ use lib.ListN.{length, replicate, length-replicate}
 use borrow.Author.Tests.{le-leb, lt-leb, eq-eqb, ne_eqb}
 use Rattle.rules.specs.declared.Terms.{Terms}
 use Rattle.rules.specs.declared.Setup.{Setup}
-use Rattle.rules.specs.declared.Setup.TheVariants.{None, Waiting, Started, Retired}
-use Rattle.rules.specs.declared.Answer.{Answer}
+use Rattle.rules.specs.declared.Setup.TheVariants.{Waiting}
 use Rattle.rules.specs.declared.Answer.TheVariants.{Done, Refused}
-use Rattle.rules.specs.declared.Refusal.{Refusal}
-use Rattle.rules.specs.declared.Refusal.TheVariants.{GenerationsExhausted, AlreadyAccepted, ProposalNotFirst, ChannelStarted, SetupRetired}
+use Rattle.rules.specs.declared.Refusal.TheVariants.{GenerationsExhausted, AlreadyAccepted, ProposalNotFirst}
 use Rattle.rules.specs.Lists.{Bytes}
 use Rattle.rules.specs.State as R
 use Rattle.rules.specs.State.{disposition_is, setup_is}
-use Rattle.rules.specs.Progress.{Outcome, outcome}
+use Rattle.rules.specs.Progress.{outcome}
 use Rattle.rules.specs.Setup.{is_none, accept, reject, prepare_in, prepare_channel}
 use Rattle.rules.specs.Calls.{Call, accepts, rejects, prepares_channel, step}
 use Rattle.rules.specs.Buffers.{taken_by, wrong_code, queue_reach}
@@ -25,11 +23,11 @@ use Rattle.peer_session.specs.declared.SessionState.{SessionState}
 use Rattle.peer_session.specs.View.{state_of, Exact}
 use Rattle.peer_session.specs.Sound.{sound_of, Full}
 use Rattle.session.specs.declared.Returned.{Returned}
-use Rattle.session.specs.Promise.{lent, Called, Turned}
+use Rattle.session.specs.Promise.{lent, Called}
 use Rattle.session.proofs.Lengths.{not_taken}
 use Rattle.session.proofs.Entry.{Entered, entered}
-use Rattle.setup.specs.Steps.{staged, waiting_in, Comes, proposing, rejecting}
-use Rattle.setup.proofs.Lending.{Plain, Leaves, is-taken, leaves, refused, comes}
+use Rattle.setup.specs.Steps.{staged, proposing, rejecting}
+use Rattle.setup.proofs.Lending.{Plain, leaves}
 use Rattle.setup.proofs.Steps.{exact-staged, stays-packed}
 
 -- ---- accept

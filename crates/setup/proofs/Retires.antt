@@ -25,9 +25,9 @@ use Rattle.queue.specs.View.{end_q, frames_of, Repacked}
 use Rattle.peer_session.specs.declared.SessionState.{SessionState}
 use Rattle.peer_session.specs.View.{state_of, Exact}
 use Rattle.peer_session.specs.Sound.{sound_of, Full}
-use Rattle.peer_session.proofs.Held.{outbox_cong, inbox_cong, state_cong}
+use Rattle.peer_session.proofs.Held.{outbox_cong, state_cong}
 use Rattle.session.specs.Promise.{lent, Called}
-use Rattle.session.proofs.Entry.{Entered, entered}
+use Rattle.session.proofs.Entry.{entered}
 use Rattle.session.proofs.Lengths.{not_taken}
 use Rattle.setup.specs.Steps.{staged, Retires, Forgets}
 use Rattle.setup.proofs.Lending.{Plain, is-taken, leaves}

@@ -1,7 +1,7 @@
 -- The steps of a setup. Assumes nothing.
 use mathlib.Core.Path.{◌≡◌, refl, sym, ap, ◌∙◌}
 use mathlib.Core.List.{List, []}
-use Prim.Native.Nat.{ℕ, ◌+◌, ◌≤◌}
+use Prim.Native.Nat.{ℕ, ◌+◌}
 use native.Mathlib.Omega.{arith}
 use lib.ListN.{length}
 use lib.Seq.{length-take-le}
@@ -13,14 +13,14 @@ use Rattle.rules.specs.declared.Refusal.{Refusal}
 use Rattle.rules.specs.Lists.{Bytes, packed}
 use Rattle.rules.specs.State as R
 use Rattle.rules.specs.State.{body_of}
-use Rattle.rules.specs.Progress.{Progress, stays, halts, Outcome, outcome, ◌then◌, request, answers}
+use Rattle.rules.specs.Progress.{Progress, halts, Outcome, outcome, ◌then◌, request, answers}
 use Rattle.rules.specs.Sending.{allocate}
 use Rattle.rules.specs.Setup.{waiting_with}
 use Rattle.rules.specs.Buffers.{repacked}
 use Rattle.rules.proofs.Buffers.{repacked-same}
 use Rattle.events.specs.declared.Stop.{Stop}
 use Rattle.events.specs.declared.Stop.TheVariants.{No, By}
-use Rattle.events.specs.Written.{Listed, asked, ended}
+use Rattle.events.specs.Written.{asked, ended}
 use Rattle.events.proofs.Laws.{listed-none}
 use Rattle.outbox.specs.declared.Outbox.{Outbox}
 use Rattle.outbox.specs.View.{end_u, unacked_of, outbox_of, ExactOutbox}

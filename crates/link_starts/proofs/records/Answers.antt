@@ -1,4 +1,3 @@
-use Prim.Native.Nat.{◌-◌}
 use native.Mathlib.Omega.{arith}
 use Rattle.starts.proofs.Slices.{length-small}
 use Rattle.link_starts.proofs.Messages.{writing_none, writing_more, writing_all}

@@ -1,5 +1,4 @@
 -- `replays::connectivity` meets its contract, by the ranges of the event's code. Assumes nothing.
-use mathlib.Core.Logic.{⊎_elim}
 use native.Mathlib.Omega.{arith}
 use Rattle.replays.proofs.Connects.{list-short, unknown, code_below, code-above}
 use Rattle.replays.proofs.connectivity.Goals as goal
