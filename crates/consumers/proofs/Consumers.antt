@@ -1,11 +1,11 @@
 -- consumer_ready. Assumes nothing.
 use mathlib.Core.Path.{◌≡◌, refl, sym, ap, ◌∙◌, subst}
-use mathlib.Core.Bool.{Bool, true, false, ◌&&◌}
+use mathlib.Core.Bool.{true, false}
 use mathlib.Core.List.{List, [], ◌∷◌, map}
-use Prim.Native.Nat.{ℕ, ◌+◌, ◌≤◌, ◌<◌}
+use Prim.Native.Nat.{ℕ, ◌≤◌, ◌<◌}
 use native.Mathlib.Omega.{arith}
 use lib.ListN.{length}
-use lib.Dec.{leb, ltb, eqb}
+use lib.Dec.{ltb}
 use borrow.Author.Tests.{le-ltb, lt-ltb, le-leb, lt-leb, ltb-true, eq-eqb, ne_eqb}
 use Rattle.rules.specs.declared.HostStatus.{HostStatus}
 use Rattle.rules.specs.declared.ReceiveMode.{ReceiveMode}
@@ -15,20 +15,18 @@ use Rattle.rules.specs.declared.Refusal.TheVariants.{GenerationsExhausted}
 use Rattle.rules.specs.Lists.{Bytes, kept, rising}
 use Rattle.rules.specs.State as R
 use Rattle.rules.specs.State.{Frame, State, frame_number, mode_is}
-use Rattle.rules.specs.Progress.{Progress, goes, stays, ◌then◌, failing, forgiven, outcome, answers}
+use Rattle.rules.specs.Progress.{Progress, goes, stays, ◌then◌, forgiven, outcome, answers}
 use Rattle.rules.specs.Receiving.{above, up_to, mode_of, answer_frame, drop_obsolete, drain, consumer_ready}
-use Rattle.rules.specs.Calls.{Call, is_ready, step}
+use Rattle.rules.specs.Calls.{is_ready, step}
 use Rattle.rules.specs.Buffers.{takes, taken_by, wrong_code, queue_end, queue_reach}
 use Rattle.rules.proofs.Lists.{and_left, and_right}
 use Rattle.rules.proofs.Sound.{Sound, parts-sound}
 use Rattle.events.specs.declared.Stop.TheVariants.{No}
-use Rattle.events.specs.Written.{books, final, ends}
+use Rattle.events.specs.Written.{books, ends}
 use Rattle.events.proofs.Laws.{write-none}
-use Rattle.numbers.specs.Seats.{in_use}
-use Rattle.queue.specs.View.{end_q, frames_of}
 use Rattle.queue.proofs.View.{frames-total}
 use Rattle.peer_session.specs.declared.SessionState.{SessionState}
-use Rattle.peer_session.specs.View.{held, state_of, Exact}
+use Rattle.peer_session.specs.View.{state_of, Exact}
 use Rattle.peer_session.specs.Sound.{sound_of, Full}
 use Rattle.peer_session.proofs.View.{Good}
 use Rattle.session.specs.declared.Returned.{Returned}

@@ -1,8 +1,8 @@
 -- A call that takes all four buffers: the tests at its entry, and its promise from what it comes to. Assumes nothing.
-use mathlib.Core.Path.{◌≡◌, refl, sym, ap, ◌∙◌, subst}
-use mathlib.Core.Bool.{Bool, true, false}
-use mathlib.Core.List.{List, [], ◌∷◌, ◌++◌}
-use Prim.Native.Nat.{ℕ, ◌+◌, ◌*◌, ◌≤◌, ◌<◌}
+use mathlib.Core.Path.{◌≡◌, sym, ap, ◌∙◌}
+use mathlib.Core.Bool.{true, false}
+use mathlib.Core.List.{List, [], ◌++◌}
+use Prim.Native.Nat.{ℕ, ◌*◌, ◌≤◌, ◌<◌}
 use native.Mathlib.Omega.{arith}
 use native.Mathlib.Nat.{zero-add}
 use lib.ListN.{length, drop}
@@ -19,17 +19,15 @@ use Rattle.rules.specs.Progress.{Progress, goes, stops, Outcome, outcome, answer
 use Rattle.rules.specs.Calls.{Call, step}
 use Rattle.rules.specs.Buffers.{Takes, takes, taken_by, short, wrong_code, over, flat, repacked, outbound_end, queue_end, queue_reach, where_taken}
 use Rattle.events.specs.declared.Stop.{Stop}
-use Rattle.events.specs.declared.Stop.TheVariants.{No, By}
 use Rattle.events.specs.Written.{Books, books, write, Final, final, ends}
 use Rattle.outbox.specs.View.{end_u, unacked_of}
 use Rattle.outbox.proofs.View.{exact-total}
 use Rattle.peer_session.specs.declared.SessionState.{SessionState}
-use Rattle.peer_session.specs.View.{held, state_of, Exact}
+use Rattle.peer_session.specs.View.{held, state_of}
 use Rattle.peer_session.specs.Sound.{sound_of}
 use Rattle.peer_session.proofs.View.{Good, exact-held, sound-good}
 use Rattle.session.specs.declared.Returned.{Returned}
 use Rattle.session.specs.Promise.{lent, exit, promise, Called, Turned}
-use Rattle.session.proofs.Promises.{Follows}
 use Rattle.session.proofs.Lengths.{short-list, short-delivery, short-outbound, short-queue, long-enough}
 use Rattle.session.proofs.Entry.{Entered, entered, is-short, is_wrong, is_unsound, is_refused, meets}
 use Rattle.draining.specs.Ends.{Stores}

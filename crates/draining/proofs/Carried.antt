@@ -1,17 +1,17 @@
 -- The drain, and the end of a call. Assumes nothing.
 use mathlib.Core.Path.{◌≡◌, refl, sym, ap, ◌∙◌, subst}
-use mathlib.Core.Bool.{Bool, true, false, ◌&&◌}
+use mathlib.Core.Bool.{Bool, true}
 use mathlib.Core.List.{List, [], ◌∷◌}
-use Prim.Native.Nat.{ℕ, ◌+◌, ◌-◌, ◌*◌, ◌≤◌}
+use Prim.Native.Nat.{ℕ, ◌+◌, ◌≤◌}
 use native.Mathlib.Omega.{arith}
 use lib.ListN.{length, take, drop, length-drop, take-append-drop}
 use lib.Dec.{leb}
 use Rattle.rules.specs.declared.HostStatus.{HostStatus}
 use Rattle.rules.specs.declared.Refusal.{Refusal}
-use Rattle.rules.specs.Lists.{Bytes, every, all, total, packed}
+use Rattle.rules.specs.Lists.{Bytes, all, total, packed}
 use Rattle.rules.specs.State as R
 use Rattle.rules.specs.State.{State, body_of, frame_body, frame_size}
-use Rattle.rules.specs.Progress.{Progress, ◌then◌, failing}
+use Rattle.rules.specs.Progress.{Progress, ◌then◌}
 use Rattle.rules.specs.Receiving.{up_to, drain}
 use Rattle.rules.specs.Sound.{sound_frame}
 use Rattle.rules.specs.Buffers.{repacked}
@@ -24,7 +24,6 @@ use Rattle.events.proofs.Laws.{then_goes}
 use Rattle.numbers.specs.declared.Numbers.{Numbers}
 use Rattle.numbers.specs.Seats.{in_use, ExactNumbers}
 use Rattle.numbers.proofs.Laws.{exact-length}
-use Rattle.outbox.specs.View.{unacked_of}
 use Rattle.outbox.proofs.View.{exact-count}
 use Rattle.queue.specs.declared.Queue.{Queue}
 use Rattle.queue.specs.View.{end_q, frames_of}

@@ -3,7 +3,7 @@ use Rattle.std.specs.Prelude.{if◌then◌else◌}
 use mathlib.Core.Path.{◌≡◌, refl, sym, ap, ◌∙◌, subst}
 use mathlib.Core.Bool.{Bool, true, false}
 use mathlib.Core.List.{List, [], ◌∷◌, ◌++◌}
-use Prim.Native.Nat.{ℕ, ◌+◌, ◌*◌, ◌≤◌}
+use Prim.Native.Nat.{ℕ, ◌+◌, ◌*◌}
 use native.Mathlib.Omega.{arith}
 use native.Mathlib.Nat.{add-zero}
 use lib.ListN.{length}
@@ -28,7 +28,7 @@ use Rattle.outbox.specs.declared.Outbox.{Outbox}
 use Rattle.outbox.specs.View.{end_u, unacked_of, ExactOutbox}
 use Rattle.outbox.proofs.View.{packed-unacked, exact-total}
 use Rattle.queue.specs.declared.Queue.{Queue}
-use Rattle.queue.specs.View.{end_q, frames_of, ExactQueue, Repacked}
+use Rattle.queue.specs.View.{end_q, frames_of, ExactQueue}
 use Rattle.numbers.specs.declared.Numbers.{Numbers}
 use Rattle.numbers.specs.Seats.{in_use, ExactNumbers}
 use Rattle.peer_session.specs.declared.SessionState.{SessionState}
@@ -37,7 +37,7 @@ use Rattle.peer_session.specs.Breaks.{Broken}
 use Rattle.delivery.specs.declared.Turn.{Turn}
 use Rattle.delivery.specs.Turns.{during}
 use Rattle.draining.specs.declared.Ended.{Ended}
-use Rattle.draining.specs.Turns.{advanced, Advances}
+use Rattle.draining.specs.Turns.{Advances}
 use Rattle.draining.specs.Ends.{Stores, Fails, Abandoning, Abandons}
 use Rattle.draining.proofs.Settled.{advanced-view, advanced-rest, advanced-bytes}
 

@@ -1,8 +1,8 @@
 -- What a turn leaves of a session. Assumes nothing.
 use mathlib.Core.Path.{◌≡◌, refl, sym, ap, ◌∙◌, subst}
 use mathlib.Core.Bool.{Bool, true, false, not}
-use mathlib.Core.List.{List, [], ◌∷◌, ◌++◌}
-use Prim.Native.Nat.{ℕ, ◌+◌, ◌≤◌, ◌<◌}
+use mathlib.Core.List.{List, [], ◌∷◌}
+use Prim.Native.Nat.{ℕ, ◌+◌}
 use native.Mathlib.Omega.{arith}
 use lib.ListN.{length, take, drop}
 use lib.Seq.{length-take-le}
@@ -11,13 +11,11 @@ use borrow.Author.Tests.{lt-ltb, le-ltb}
 use Rattle.rules.specs.Lists.{Bytes, empty, total, packed}
 use Rattle.rules.specs.State as R
 use Rattle.rules.specs.State.{body_of}
-use Rattle.rules.specs.Sending.{fresh}
 use Rattle.rules.specs.Buffers.{repacked}
 use Rattle.rules.proofs.Lists.{length-packed}
 use Rattle.rules.proofs.Buffers.{repacked-same}
 use Rattle.numbers.specs.declared.Numbers.{Numbers}
 use Rattle.numbers.specs.Seats.{in_use, ExactNumbers}
-use Rattle.outbox.specs.declared.Unacked.{Unacked}
 use Rattle.outbox.specs.declared.Outbox.{Outbox}
 use Rattle.outbox.specs.View.{len_u, end_u, unacked_of, outbox_of, ExactOutbox}
 use Rattle.outbox.specs.Steps.{Repacked, Left, Appended, Room}
@@ -27,7 +25,7 @@ use Rattle.queue.specs.View as Queues
 use Rattle.queue.specs.View.{frames_of}
 use Rattle.peer_session.specs.declared.RejectBody.{RejectBody}
 use Rattle.peer_session.specs.declared.SessionState.{SessionState}
-use Rattle.peer_session.specs.View.{view, state_of, inbox_of, stage_of, fixed_of, reject_of, ExactRest, Exact}
+use Rattle.peer_session.specs.View.{view, state_of, reject_of, ExactRest, Exact}
 use Rattle.peer_session.proofs.Held.{outbox_cong, state_cong}
 use Rattle.delivery.specs.declared.Turn.{Turn}
 use Rattle.delivery.specs.Turns.{acted, after_sending, during, Under}

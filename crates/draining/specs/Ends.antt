@@ -10,11 +10,10 @@ use Rattle.rules.specs.Progress.{Progress, ◌then◌, broken, failing}
 use Rattle.rules.specs.Receiving.{drain}
 use Rattle.rules.specs.Sound.{sound, sound_frame}
 use Rattle.rules.specs.Buffers.{repacked}
-use Rattle.events.specs.declared.Stop.{Stop}
 use Rattle.events.specs.declared.Stop.TheVariants.{No, By}
 use Rattle.events.specs.Written.{Listed, Books, books, Within, final, ends}
 use Rattle.outbox.specs.View.{end_u, unacked_of}
-use Rattle.queue.specs.View.{end_q, frames_of, Repacked, ExactQueue}
+use Rattle.queue.specs.View.{end_q, frames_of, Repacked}
 use Rattle.numbers.specs.declared.Numbers.{Numbers}
 use Rattle.numbers.specs.Seats.{in_use, ExactNumbers}
 use Rattle.peer_session.specs.declared.SessionState.{SessionState}

@@ -1,5 +1,5 @@
 -- A turn that begins at a session, and what a turn leaves of it: the outbox settled, and the rest stored back. Assumes nothing.
-use Rattle.std.specs.Prelude.{ℕ, ◌≤◌, ◌≡◌, Bool, true, false, List, length, drop, ltb}
+use Rattle.std.specs.Prelude.{ℕ, ◌≤◌, ◌≡◌, true, false, length, drop, ltb}
 use Rattle.rules.specs.Lists.{Bytes}
 use Rattle.outbox.specs.declared.Outbox.{Outbox}
 use Rattle.outbox.specs.View.{unacked_of, ExactOutbox}

@@ -14,7 +14,7 @@ use Rattle.rules.specs.declared.Refusal.TheVariants.{QueueCount, QueueBytes}
 use Rattle.rules.specs.Lists.{Bytes, any, put, itself}
 use Rattle.rules.specs.State.{Frame, frame_number, is_frame}
 use Rattle.events.specs.declared.Stop.TheVariants.{No, By}
-use Rattle.parts.specs.Codes.{good_codes, handed}
+use Rattle.parts.specs.Codes.{good_codes}
 use Rattle.events.specs.Written.{Listed, asked, books}
 use Rattle.numbers.specs.declared.Numbers.{Numbers}
 use Rattle.numbers.specs.Seats.{in_use, ExactNumbers}

@@ -1,26 +1,25 @@
 -- A new session. Assumes nothing.
 use Rattle.std.specs.Prelude.{if◌then◌else◌}
-use mathlib.Core.Path.{◌≡◌, refl, sym, ap, ◌∙◌}
-use mathlib.Core.Bool.{Bool, true, false}
+use mathlib.Core.Path.{◌≡◌, ap, ◌∙◌}
+use mathlib.Core.Bool.{Bool}
 use mathlib.Core.List.{List, [], map}
-use mathlib.Core.Option.{Option, none, some}
+use mathlib.Core.Option.{none, some}
 use Prim.Native.Nat.{ℕ}
-use lib.ListN.{length, take}
+use lib.ListN.{take}
 use Rattle.stores.specs.Packed.{cut}
 use Rattle.rules.specs.declared.Policy.{Policy}
 use Rattle.rules.specs.Lists.{Bytes}
 use Rattle.rules.specs.State as R
-use Rattle.rules.specs.Start.{Reliable, as_sent, new}
+use Rattle.rules.specs.Start.{as_sent, new}
 use Rattle.outbox.specs.declared.Outbox.{Outbox}
 use Rattle.outbox.specs.View.{unacked_of}
-use Rattle.queue.specs.declared.Queued.{Queued}
 use Rattle.queue.specs.View.{len_q, frame, frames_of}
 use Rattle.peer_session.specs.declared.Stage.{Stage}
 use Rattle.peer_session.specs.declared.RejectBody.{RejectBody}
 use Rattle.peer_session.specs.declared.SessionState.{SessionState}
-use Rattle.peer_session.specs.View.{Held, held, handoff_of, stage_of, reject_of, handoff_length, state_of}
+use Rattle.peer_session.specs.View.{held, handoff_of, stage_of, reject_of, state_of}
 use Rattle.peer_session.specs.New.{New, nothing, NoMessages}
-use Rattle.peer_session.proofs.Held.{outbox_cong, inbox_cong, stage_cong, fixed_cong, state_cong, Agree, agree}
+use Rattle.peer_session.proofs.Held.{outbox_cong, inbox_cong, stage_cong, fixed_cong, state_cong, agree}
 
 module _ {x : Outbox} {remote disposition : ℕ} {policy : Policy} {reject : RejectBody} {r : SessionState} (n : New x remote disposition policy reject r) where
   no_handoff : handoff_of r.handoff ≡ none

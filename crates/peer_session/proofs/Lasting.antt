@@ -1,33 +1,31 @@
 -- What settles a sound state is a sound session. Assumes nothing.
 use mathlib.Core.Path.{◌≡◌, refl, sym, ap, ◌∙◌, subst}
-use mathlib.Core.Bool.{Bool, true, false, ◌&&◌}
-use mathlib.Core.List.{List, [], ◌∷◌, ◌++◌, map}
+use mathlib.Core.Bool.{Bool, true, ◌&&◌}
+use mathlib.Core.List.{[], ◌∷◌, ◌++◌}
 use Prim.Native.Nat.{ℕ, ◌+◌, ◌-◌, ◌≤◌}
 use native.Mathlib.Omega.{arith}
-use lib.ListN.{length, take, replicate, length-append, length-replicate}
+use lib.ListN.{length, replicate, length-append, length-replicate}
 use lib.Dec.{leb}
 use borrow.Author.Tests.{leb-true}
 use Rattle.stores.specs.Admitted.{admitted}
 use Rattle.stores.proofs.Packs as Packs
-use Rattle.rules.specs.Lists.{Bytes, every, all, total, packed, rising, itself}
+use Rattle.rules.specs.Lists.{Bytes, all, total, packed, rising, itself}
 use Rattle.rules.specs.State as R
 use Rattle.rules.specs.State.{body_of, size_of, frame_body, frame_size}
 use Rattle.rules.specs.Start.{good_policy, good_reject}
 use Rattle.rules.specs.Sound.{ascending, at_most, sound, sound_fixed}
 use Rattle.rules.proofs.Lists.{every_true, length-packed}
 use Rattle.rules.proofs.Sound.{Sound, sound-parts}
-use Rattle.outbox.specs.declared.Unacked.{Unacked}
-use Rattle.outbox.specs.View.{num_u, len_u, record_u, used_u, end_u, ExactOutbox}
+use Rattle.outbox.specs.View.{num_u, len_u, end_u}
 use Rattle.outbox.specs.Sound.{admits_unacked, sound_unacked, sound_outbox_of}
 use Rattle.outbox.proofs.View.{pack_u}
-use Rattle.queue.specs.declared.Queued.{Queued}
-use Rattle.queue.specs.View.{num_q, len_q, record_q, used_q, end_q, ExactQueue}
+use Rattle.queue.specs.View.{num_q, len_q, end_q}
 use Rattle.queue.specs.Sound.{admits_queued, sound_queued, sound_queue}
 use Rattle.queue.proofs.View.{pack_q}
 use Rattle.peer_session.specs.declared.SessionState.{SessionState}
 use Rattle.peer_session.specs.View.{Held, held, encode, state_of, Exact}
 use Rattle.peer_session.specs.Sound.{sound_acks, sound_sizes, sound_of, Full}
-use Rattle.peer_session.proofs.View.{Good, held-view, good-sound}
+use Rattle.peer_session.proofs.View.{held-view, good-sound}
 
 -- ---- soundness is about what a session settles
 

@@ -1,11 +1,10 @@
 -- A message that joins an outbox, or a refusal that leaves it. Assumes nothing.
-use Rattle.std.specs.Prelude.{if◌then◌else◌}
 use mathlib.Core.Path.{◌≡◌, refl, sym, ap, ◌∙◌}
 use mathlib.Core.Bool.{Bool, true, false, ◌||◌}
 use mathlib.Core.List.{List, [], ◌∷◌, ◌++◌}
-use Prim.Native.Nat.{ℕ, ◌+◌, ◌-◌, ◌≤◌, ◌<◌}
+use Prim.Native.Nat.{ℕ, ◌+◌, ◌≤◌, ◌<◌}
 use native.Mathlib.Omega.{arith}
-use lib.ListN.{length, take}
+use lib.ListN.{length}
 use lib.Seq.{length-take-le}
 use lib.Dec.{ltb}
 use borrow.Author.Tests.{lt-ltb, le-ltb}
@@ -15,19 +14,16 @@ use Rattle.rules.specs.Lists.{Bytes, total, packed}
 use Rattle.rules.specs.State as R
 use Rattle.rules.specs.State.{body_of, size_of, outbox_is, disposition_is}
 use Rattle.rules.specs.Clock.{raised}
-use Rattle.rules.specs.Progress.{Progress, goes, stops, stays, halts}
-use Rattle.rules.specs.Sending.{exhausted, no_room, fresh, numbered, allocate}
+use Rattle.rules.specs.Progress.{stays, halts}
+use Rattle.rules.specs.Sending.{fresh, numbered, allocate}
 use Rattle.rules.specs.Buffers.{repacked}
 use Rattle.rules.proofs.Buffers.{repacked-same}
-use Rattle.events.specs.declared.Stop.{Stop}
 use Rattle.events.specs.declared.Stop.TheVariants.{No, By}
-use Rattle.events.specs.Written.{ended}
 use Rattle.outbox.specs.declared.Outbox.{Outbox}
 use Rattle.outbox.specs.View.{end_u, unacked_of, outbox_of, ExactOutbox}
-use Rattle.outbox.specs.Steps.{Repacked, Appended}
+use Rattle.outbox.specs.Steps.{Appended}
 use Rattle.outbox.proofs.View.{packed-unacked, exact-count, exact-total}
-use Rattle.peer_session.specs.declared.Allocated.{Allocated}
-use Rattle.peer_session.specs.Allocates.{grown, Allocates}
+use Rattle.peer_session.specs.Allocates.{Allocates}
 
 -- ---- the rule, test by test
 

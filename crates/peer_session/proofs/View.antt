@@ -1,31 +1,29 @@
 -- The view: a session settles what its state asks for, what settles a state is viewed as it, and both are sound together. Assumes nothing.
 use Rattle.std.specs.Prelude.{if◌then◌else◌}
 use mathlib.Core.Path.{◌≡◌, refl, sym, ap, ◌∙◌}
-use mathlib.Core.Bool.{Bool, true, false, ◌&&◌}
+use mathlib.Core.Bool.{Bool, true, false}
 use mathlib.Core.List.{List, [], ◌∷◌, ◌++◌, map}
-use mathlib.Core.Option.{Option, none, some}
-use Prim.Native.Nat.{ℕ, ◌+◌, ◌-◌, ◌≤◌}
+use mathlib.Core.Option.{none, some}
+use Prim.Native.Nat.{ℕ, ◌-◌, ◌≤◌}
 use native.Mathlib.Omega.{arith}
 use lib.ListN.{length, take, replicate, length-replicate}
 use lib.Seq.{length-take-le}
 use lib.Dec.{leb}
 use borrow.Author.Tests.{le-leb, leb-true}
-use Rattle.rules.specs.Lists.{Bytes, every, all, packed, rising, itself}
+use Rattle.rules.specs.Lists.{Bytes, all, packed, rising, itself}
 use Rattle.rules.specs.State as R
 use Rattle.rules.specs.State.{body_of, frame_body}
 use Rattle.rules.specs.Start.{good_policy, good_reject, handoff_size}
-use Rattle.rules.specs.Sound.{ascending, at_most, sound_fixed, sound}
+use Rattle.rules.specs.Sound.{at_most, sound_fixed}
 use Rattle.rules.proofs.Lists.{and_both, every_true, true_every}
-use Rattle.rules.proofs.Outboxes as Out
 use Rattle.rules.proofs.Inboxes as In
-use Rattle.rules.proofs.Sound.{Sound, Settled, sound-parts, parts-sound}
+use Rattle.rules.proofs.Sound.{Sound}
 use Rattle.stores.proofs.Packs.{cut-packed}
 use Rattle.stores.proofs.Chains.{two}
 use Rattle.stores.specs.Packed.{cut}
-use Rattle.numbers.specs.declared.Numbers.{Numbers}
 use Rattle.numbers.specs.Seats.{in_use, ExactNumbers}
 use Rattle.numbers.proofs.Laws.{exact-length}
-use Rattle.outbox.specs.View.{outbox_of, unacked_of, ExactOutbox}
+use Rattle.outbox.specs.View.{unacked_of, ExactOutbox}
 use Rattle.outbox.specs.Sound.{sound_outbox_of}
 use Rattle.outbox.proofs.View.{exact-count, exact-records, unacked_of_view, sound-outbox-good, good-sound-outbox}
 use Rattle.queue.specs.declared.Queued.{Queued}
@@ -35,9 +33,9 @@ use Rattle.queue.proofs.View.{pack_q, frames-length, frames-records}
 use Rattle.queue.proofs.Sound.{GoodQueue, sound-queue-good, good-sound-queue}
 use Rattle.peer_session.specs.declared.TerminalHandoff.{TerminalHandoff}
 use Rattle.peer_session.specs.declared.SessionState.{SessionState}
-use Rattle.peer_session.specs.View.{Held, held, encode, handoff_of, handoff_length, inbox_of, stage_of, fixed_of, reject_of, state_of, ExactRest, Exact}
-use Rattle.peer_session.specs.Sound.{sound_acks, sound_sizes, sound_stage_of, sound_of, Full}
-use Rattle.peer_session.proofs.Held.{outbox_cong, inbox_cong, fixed_cong, state_cong, Agree, agree}
+use Rattle.peer_session.specs.View.{Held, held, encode, handoff_of, handoff_length, inbox_of, fixed_of, reject_of, state_of, Exact}
+use Rattle.peer_session.specs.Sound.{sound_acks, sound_sizes, sound_of, Full}
+use Rattle.peer_session.proofs.Held.{outbox_cong, inbox_cong, fixed_cong, state_cong, agree}
 
 -- ---- an exact session settles what its view asks for
 

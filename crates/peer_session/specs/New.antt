@@ -1,20 +1,17 @@
 -- A new session. Assumes nothing.
-use Rattle.std.specs.Prelude.{ℕ, ◌≡◌, Bool, true, false, List, [], map, length, pos}
+use Rattle.std.specs.Prelude.{ℕ, ◌≡◌, false, [], length, pos}
 use Rattle.std.proofs.Math.Option.{none}
 use Rattle.std.specs.Float.{fin}
 use Rattle.rules.specs.declared.Policy.{Policy}
 use Rattle.rules.specs.declared.Setup.TheVariants.{None}
 use Rattle.rules.specs.declared.ReceiveMode.TheVariants.{Raw}
-use Rattle.rules.specs.Lists.{Bytes}
-use Rattle.rules.specs.Start.{new}
 use Rattle.numbers.specs.Seats.{ExactNumbers}
 use Rattle.outbox.specs.declared.Outbox.{Outbox}
-use Rattle.outbox.specs.View.{outbox_of}
 use Rattle.queue.specs.declared.Queue.{Queue}
 use Rattle.peer_session.specs.declared.TerminalHandoff.{TerminalHandoff}
 use Rattle.peer_session.specs.declared.RejectBody.{RejectBody}
 use Rattle.peer_session.specs.declared.SessionState.{SessionState}
-use Rattle.peer_session.specs.View.{Held, state_of, reject_of, ExactRest}
+use Rattle.peer_session.specs.View.{Held}
 
 pub record NoMessages (next : ℕ) (r : Outbox) : Type 0 where
   pub next_is : r.next ≡ next

@@ -1,5 +1,5 @@
 -- Whether a session is one that calls leave, by its records alone; any other was altered by a host. Assumes nothing.
-use Rattle.std.specs.Prelude.{ℕ, ◌-◌, ◌≡◌, Bool, true, false, ◌&&◌, length, leb}
+use Rattle.std.specs.Prelude.{ℕ, ◌-◌, ◌≡◌, Bool, ◌&&◌, length, leb}
 use Rattle.rules.specs.Lists.{all, rising, itself}
 use Rattle.rules.specs.Limits.{max_waiting_and_queued, max_retries, max_handoff, max_reject, outbound_reject}
 use Rattle.rules.specs.Sound.{at_most, ascending}

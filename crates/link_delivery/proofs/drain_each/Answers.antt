@@ -1,8 +1,5 @@
 use mathlib.Core.Path.{◌∙◌}
-use mathlib.Core.Logic.{⊎_elim}
-use Prim.Native.Nat.{◌-◌}
 use native.Mathlib.Omega.{arith}
-use borrow.Author.Tests.{not-true}
 use Rattle.delivery.proofs.Drains.{next_small, out_empty, out_unavailable}
 use Rattle.link_delivery.proofs.Turns.{summing, turns_in, ends_in, later_in, reaches_in, on_in, ready_in, undeliverable_in, refused_in, more_in}
 use Rattle.link_delivery.proofs.drain_each.Goals as goal

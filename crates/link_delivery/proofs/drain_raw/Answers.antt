@@ -1,6 +1,4 @@
 use mathlib.Core.Path.{refl}
-use mathlib.Core.Logic.{⊎_elim}
-use Prim.Native.Nat.{◌-◌}
 use native.Mathlib.Omega.{arith}
 use Rattle.delivery.proofs.Drains.{out_empty}
 use Rattle.link_delivery.proofs.Turns.{summing, later_in}

@@ -1,4 +1,3 @@
-use Prim.Native.Nat.{◌-◌}
 use mathlib.Core.Path.{refl}
 use Rattle.parts.specs.Parts.{section}
 use Rattle.numbers.proofs.Passes.{all_unlisted, all_listed}

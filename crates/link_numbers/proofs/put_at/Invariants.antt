@@ -1,4 +1,3 @@
-use Rattle.parts.specs.Parts.{at}
 use Rattle.link_numbers.proofs.Changes.{Raising}
 use Rattle.link_numbers.proofs.put_at.Given as goal
 

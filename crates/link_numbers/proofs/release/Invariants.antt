@@ -1,5 +1,4 @@
 use Prim.Native.Nat.{◌-◌}
-use Rattle.parts.specs.Parts.{at}
 use Rattle.link_numbers.proofs.Changes.{ReleasingIn}
 use Rattle.link_numbers.proofs.release.Given as goal
 

@@ -1,4 +1,4 @@
-use Prim.Native.Nat.{◌-◌, ◌+◌}
+use Prim.Native.Nat.{◌+◌}
 use native.Mathlib.Omega.{arith}
 use Rattle.rules.specs.Acks.{differs_from}
 use Rattle.parts.specs.Parts.{at}

@@ -1,6 +1,5 @@
 use Prim.Native.Nat.{◌-◌}
 use Rattle.rules.specs.Acks.{differs_from}
-use Rattle.parts.specs.Parts.{at}
 use Rattle.link_numbers.proofs.Changes.{Sifting}
 use Rattle.link_numbers.proofs.take_out.Given as goal
 
