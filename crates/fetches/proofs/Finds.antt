@@ -9,11 +9,10 @@ use Rattle.rules.specs.declared.Answer.{Answer}
 use Rattle.rules.specs.declared.Answer.TheVariants.{Refused}
 use Rattle.rules.specs.declared.Refusal.TheVariants.{ShortBuffer, BadRecord}
 use Rattle.rules.specs.Lists.{Bytes}
-use Rattle.rules.specs.State as R
 use Rattle.rules.specs.Progress.{outcome}
 use Rattle.rules.specs.Replay.{fetch}
 use Rattle.rules.specs.Calls.{fetches, step}
-use Rattle.rules.specs.Buffers.{taken_by, short, wrong_code, queue_reach}
+use Rattle.rules.specs.Buffers.{taken_by, short, wrong_code}
 use Rattle.outbox.specs.declared.Place.{Place}
 use Rattle.outbox.specs.View.{used_u}
 use Rattle.outbox.specs.Records.{place_u, answer_of}

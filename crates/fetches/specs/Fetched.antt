@@ -7,7 +7,7 @@ use Rattle.rules.specs.Limits.{queue_bytes}
 use Rattle.rules.specs.Calls.{Call, fetches}
 use Rattle.peer_session.specs.declared.SessionState.{SessionState}
 use Rattle.peer_session.specs.View.{held}
-use Rattle.session.specs.Promise.{Exit, exit, lent, promise}
+use Rattle.session.specs.Promise.{exit, lent, promise}
 
 -- of a call that takes the outbound store and changes nothing
 abbrev pub AnsweredWithOutbound : Call → SessionState → Bytes → Answer → Type 0

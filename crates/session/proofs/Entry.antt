@@ -1,7 +1,7 @@
 -- How an exported call meets its promise, from the tests that it made at its entry. Assumes nothing.
-use mathlib.Core.Path.{◌≡◌, refl, sym, ap, ◌∙◌}
-use mathlib.Core.Bool.{Bool, true, false}
-use mathlib.Core.List.{List, []}
+use mathlib.Core.Path.{◌≡◌, sym, ap, ◌∙◌}
+use mathlib.Core.Bool.{true, false}
+use mathlib.Core.List.{[]}
 use Prim.Native.Nat.{ℕ, ◌≤◌}
 use lib.ListN.{length, take}
 use Rattle.rules.specs.declared.Answer.{Answer}
@@ -9,7 +9,6 @@ use Rattle.rules.specs.declared.Answer.TheVariants.{Refused}
 use Rattle.rules.specs.declared.Refusal.{Refusal}
 use Rattle.rules.specs.declared.Refusal.TheVariants.{ShortBuffer, UnknownCode, BadRecord}
 use Rattle.rules.specs.Lists.{Bytes}
-use Rattle.rules.specs.State.{State}
 use Rattle.rules.specs.Progress.{outcome}
 use Rattle.rules.specs.Calls.{Call, step}
 use Rattle.rules.specs.Buffers.{Lent, taken_by, short, wrong_code, queue_end, queue_reach}
@@ -20,7 +19,7 @@ use Rattle.peer_session.specs.View.{held, encode, state_of, Exact}
 use Rattle.peer_session.specs.Sound.{sound_of, Full}
 use Rattle.peer_session.proofs.View.{Good, exact-held, sound-good}
 use Rattle.session.specs.declared.Returned.{Returned}
-use Rattle.session.specs.Promise.{Exit, exit, lent, unchanged, promise, Called, Turned}
+use Rattle.session.specs.Promise.{exit, unchanged, promise, Called, Turned}
 use Rattle.session.proofs.Promises.{promise-short, promise-code, promise_unsound, promise-follows, Follows, follows_is, Stored, refuses}
 
 -- ---- what is known of a sound session with its stores

@@ -1,14 +1,13 @@
 -- A call leaves a sound session sound, so none after a start is refused for it. Assumes nothing.
-use mathlib.Core.Path.{◌≡◌, refl, sym, ap, ◌∙◌}
+use mathlib.Core.Path.{◌≡◌, refl, ap, ◌∙◌}
 use mathlib.Core.Bool.{Bool, true, false}
-use Prim.Native.Nat.{ℕ, ◌≤◌}
+use Prim.Native.Nat.{◌≤◌}
 use lib.ListN.{length}
-use Rattle.rules.specs.Sound.{sound}
 use Rattle.rules.specs.Calls.{Call, step}
 use Rattle.rules.specs.Buffers.{Lent, taken_by, short, wrong_code}
 use Rattle.rules.proofs.Sound.{parts-sound, step-sound}
 use Rattle.peer_session.specs.declared.SessionState.{SessionState}
-use Rattle.peer_session.specs.View.{held, encode, state_of}
+use Rattle.peer_session.specs.View.{held, state_of}
 use Rattle.peer_session.specs.Sound.{sound_of, Full}
 use Rattle.peer_session.proofs.View.{sound-good}
 use Rattle.peer_session.proofs.Lasting.{same-sound, settles-sound}

@@ -1,8 +1,5 @@
 use mathlib.Core.Path.{◌∙◌}
-use mathlib.Core.Logic.{⊎_elim}
-use Prim.Native.Nat.{◌-◌}
 use native.Mathlib.Omega.{arith}
-use borrow.Author.Tests.{not-true}
 use Rattle.delivery.proofs.Drains.{turns_none, turns_more, ready, reaches, next_small, on-small, drains_as, out_unavailable, out_empty, out_later, out_undeliverable, out_refused}
 use Rattle.delivery.proofs.drain.Goals as goal
 use Rattle.delivery.proofs.drain.Goals.{else-drain-test, then-drain-test+then-not-available, then-drain-test+else-not-available+then-number-turn, then-drain-test+else-not-available+else-number-turn+then-not-deliverable}

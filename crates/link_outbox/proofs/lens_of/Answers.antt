@@ -1,5 +1,4 @@
 use native.Mathlib.Omega.{arith}
-use Prim.Native.Nat.{◌-◌}
 use Rattle.parts.specs.Parts.{unacked_at}
 use Rattle.outbox.specs.View.{len_u}
 use Rattle.link_outbox.proofs.Sounds.{total-seats, total-end}

@@ -1,4 +1,3 @@
-use Prim.Native.Nat.{◌-◌}
 use native.Mathlib.Omega.{arith}
 use Rattle.parts.specs.Parts.{unacked_at}
 use Rattle.link_outbox.specs.Tests.{stayer}

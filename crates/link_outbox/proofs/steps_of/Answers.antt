@@ -1,5 +1,5 @@
 use native.Mathlib.Omega.{arith}
-use Prim.Native.Nat.{◌+◌, ◌-◌}
+use Prim.Native.Nat.{◌+◌}
 use Rattle.parts.specs.Parts.{at}
 use Rattle.link_outbox.proofs.Sounds.{same-few, steps_more, steps_all}
 use Rattle.link_outbox.proofs.steps_of.Goals as goal

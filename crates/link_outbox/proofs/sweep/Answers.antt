@@ -1,5 +1,4 @@
 use mathlib.Core.Path.{refl, ◌∙◌}
-use Prim.Native.Nat.{◌-◌}
 use native.Mathlib.Omega.{arith}
 use Rattle.link_outbox.proofs.Sweeps.{sweeps_none, body-within, turn, dropped}
 use Rattle.link_outbox.proofs.sweep.Goals as goal

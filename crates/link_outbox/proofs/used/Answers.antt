@@ -1,6 +1,5 @@
 use mathlib.Core.List.{[]}
 use native.Mathlib.Omega.{arith}
-use Prim.Native.Nat.{◌-◌}
 use Rattle.outbox.specs.View.{len_u}
 use Rattle.parts.specs.Parts.{unacked_at}
 use Rattle.link_outbox.proofs.Sounds.{total-seats, total-end, take-total}

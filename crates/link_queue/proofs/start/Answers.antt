@@ -1,5 +1,4 @@
 use Rattle.link_queue.proofs.Sums.{bodies-within}
-use Prim.Native.Nat.{◌-◌}
 use mathlib.Core.Path.{◌≡◌, sym, ap, ◌∙◌}
 use native.Mathlib.Omega.{arith}
 use Rattle.link_queue.specs.Steps.{bodies}
