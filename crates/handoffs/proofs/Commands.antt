@@ -1,6 +1,6 @@
 -- `channel_command`, test by test. Assumes nothing.
 use Rattle.std.specs.Prelude.{if◌then◌else◌}
-use mathlib.Core.Path.{◌≡◌, refl, sym, ap, ◌∙◌}
+use mathlib.Core.Path.{◌≡◌, refl, ap, ◌∙◌}
 use mathlib.Core.Bool.{Bool, true, false}
 use mathlib.Core.List.{List, []}
 use mathlib.Core.Option.{Option, none, some}
@@ -18,11 +18,11 @@ use Rattle.rules.specs.Calls.{commands, step}
 use Rattle.rules.specs.Buffers.{taken_by, wrong_code, queue_reach}
 use Rattle.outbox.specs.View.{ExactOutbox}
 use Rattle.peer_session.specs.declared.SessionState.{SessionState}
-use Rattle.peer_session.specs.View.{handoff_length, state_of, Exact}
+use Rattle.peer_session.specs.View.{state_of}
 use Rattle.peer_session.specs.Sound.{sound_of, Full}
 use Rattle.peer_session.proofs.View.{Parts, parts}
 use Rattle.session.specs.declared.Returned.{Returned}
-use Rattle.session.specs.Promise.{lent, Called, CalledWithOutbound}
+use Rattle.session.specs.Promise.{CalledWithOutbound}
 use Rattle.session.proofs.Entry.{Entered, entered}
 use Rattle.setup.specs.Steps.{Ready, Comes}
 use Rattle.setup.proofs.Lending.{Plain, is-taken, comes}

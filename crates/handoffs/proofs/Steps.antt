@@ -1,31 +1,28 @@
 -- The steps of a command. Assumes nothing.
 use mathlib.Core.Path.{◌≡◌, refl, sym, ap, ◌∙◌}
-use mathlib.Core.Bool.{Bool, true, false, not, ◌&&◌, ◌||◌}
-use mathlib.Core.List.{List, [], ◌++◌}
+use mathlib.Core.Bool.{Bool, true, false}
+use mathlib.Core.List.{List, []}
 use mathlib.Core.Option.{Option, none, some}
 use Prim.Native.Nat.{ℕ, ◌+◌, ◌≤◌}
 use native.Mathlib.Omega.{arith}
-use native.Mathlib.Nat.{zero-add}
 use lib.ListN.{length, take, drop, replicate, length-replicate}
 use lib.Seq.{take_at}
-use lib.Dec.{eqb}
-use borrow.Author.Tests.{eq-eqb, ne_eqb}
 use Rattle.rules.specs.declared.Setup.TheVariants.{Started}
 use Rattle.rules.specs.declared.Answer.TheVariants.{Done, Refused}
 use Rattle.rules.specs.declared.Refusal.{Refusal}
-use Rattle.rules.specs.declared.Refusal.TheVariants.{HandoffWithoutCommand, HandoffPending, CommandDiffers, HandoffInconsistent, HandoffNotHeld}
-use Rattle.rules.specs.Lists.{Bytes, any, same}
+use Rattle.rules.specs.declared.Refusal.TheVariants.{HandoffWithoutCommand}
+use Rattle.rules.specs.Lists.{Bytes}
 use Rattle.rules.specs.State as R
 use Rattle.rules.specs.State.{handoff_is}
-use Rattle.rules.specs.Progress.{Progress, stays, halts, ◌then◌, request, Outcome, outcome, answers}
-use Rattle.rules.specs.Handoff.{Command, numbered_to, handing_off, validate, channel_command}
+use Rattle.rules.specs.Progress.{Progress, stays, ◌then◌, request, Outcome, outcome, answers}
+use Rattle.rules.specs.Handoff.{Command, handing_off, channel_command}
 use Rattle.rules.specs.Sending.{allocate}
 use Rattle.stores.specs.Placed.{placed}
 use Rattle.stores.proofs.Laws.{length-placed}
 use Rattle.events.specs.declared.Stop.TheVariants.{No, By}
 use Rattle.events.specs.Written.{asked}
 use Rattle.events.proofs.Laws.{listed-none}
-use Rattle.outbox.specs.View.{unacked_of, ExactOutbox}
+use Rattle.outbox.specs.View.{ExactOutbox}
 use Rattle.peer_session.specs.declared.TerminalHandoff.{TerminalHandoff}
 use Rattle.peer_session.specs.declared.SessionState.{SessionState}
 use Rattle.peer_session.specs.View.{handoff_of, state_of, Exact}
@@ -34,7 +31,7 @@ use Rattle.session.specs.Promise.{Turned}
 use Rattle.setup.specs.declared.Joined.{Joined}
 use Rattle.setup.specs.Steps.{Joins, Asks, staged, Comes}
 use Rattle.setup.proofs.Steps.{stays-packed, turned_is, joined, stopped}
-use Rattle.handoffs.specs.Commands.{starting_in, commanding, HandsOver, carries_body, validating_of, validating}
+use Rattle.handoffs.specs.Commands.{starting_in, commanding, HandsOver}
 
 -- ---- a new handoff
 

@@ -3,7 +3,7 @@ use Rattle.std.specs.Prelude.{if◌then◌else◌}
 use mathlib.Core.Path.{◌≡◌, refl, sym, ap, ◌∙◌}
 use mathlib.Core.Bool.{Bool, true, false, ◌&&◌, ◌||◌}
 use mathlib.Core.List.{List, [], ◌∷◌}
-use Prim.Native.Nat.{ℕ, zero, suc, ◌+◌, ◌-◌, ◌≤◌, ◌<◌}
+use Prim.Native.Nat.{ℕ, zero, suc, ◌+◌, ◌≤◌, ◌<◌}
 use native.Mathlib.Omega.{arith}
 use lib.ListN.{length, take, drop, get_or}
 use lib.Seq.{drop-drop}
@@ -11,14 +11,14 @@ use lib.Dec.{leb, ltb, eqb}
 use borrow.Author.Tests.{lt-leb, leb-false, ne_eqb, eqb-true, ltb-true}
 use Rattle.stores.specs.Packed.{cut}
 use Rattle.stores.proofs.Chains.{two}
-use Rattle.rules.specs.Lists.{Bytes, any, same, total, rising}
+use Rattle.rules.specs.Lists.{Bytes, any, same, rising}
 use Rattle.rules.specs.State as R
 use Rattle.rules.specs.Handoff.{numbered_to}
 use Rattle.outbox.specs.declared.Unacked.{Unacked}
 use Rattle.outbox.specs.declared.Outbox.{Outbox}
 use Rattle.outbox.specs.declared.Place.{Place}
 use Rattle.outbox.specs.declared.Place.TheVariants.{At, Nowhere}
-use Rattle.outbox.specs.View.{num_u, len_u, unacked, used_u, end_u, unacked_of, blank_u, ExactOutbox}
+use Rattle.outbox.specs.View.{num_u, len_u, unacked, used_u, unacked_of, blank_u}
 use Rattle.outbox.specs.Records.{place_u}
 use Rattle.outbox.specs.Sound.{sound_outbox_of}
 use Rattle.outbox.proofs.View.{sound_facts}

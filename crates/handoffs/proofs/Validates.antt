@@ -1,22 +1,21 @@
 -- A command that meets a handoff, test by test. Assumes nothing.
 use mathlib.Core.Path.{◌≡◌, refl, sym, ap, ◌∙◌}
-use mathlib.Core.Bool.{Bool, true, false, not, ◌&&◌, ◌||◌}
-use mathlib.Core.List.{List, []}
-use mathlib.Core.Option.{Option, none, some}
+use mathlib.Core.Bool.{Bool, true, false}
+use mathlib.Core.List.{List}
+use mathlib.Core.Option.{Option, some}
 use Prim.Native.Nat.{ℕ}
 use lib.ListN.{length}
-use lib.Dec.{eqb}
 use borrow.Author.Tests.{eq-eqb, ne_eqb}
-use Rattle.rules.specs.declared.Answer.TheVariants.{Done, Refused}
+use Rattle.rules.specs.declared.Answer.TheVariants.{Done}
 use Rattle.rules.specs.declared.Refusal.{Refusal}
 use Rattle.rules.specs.declared.Refusal.TheVariants.{HandoffPending, CommandDiffers, HandoffInconsistent, HandoffNotHeld}
 use Rattle.rules.specs.Lists.{Bytes, any, same}
 use Rattle.rules.specs.State as R
-use Rattle.rules.specs.Progress.{Progress, stays, halts, ◌then◌, request, Outcome, outcome, answers}
+use Rattle.rules.specs.Progress.{Progress, stays, halts, ◌then◌, request, answers}
 use Rattle.rules.specs.Handoff.{Command, numbered_to, carries, validate, channel_command}
-use Rattle.outbox.specs.View.{unacked_of, ExactOutbox}
+use Rattle.outbox.specs.View.{unacked_of}
 use Rattle.peer_session.specs.declared.SessionState.{SessionState}
-use Rattle.peer_session.specs.View.{handoff_of, state_of}
+use Rattle.peer_session.specs.View.{state_of}
 use Rattle.session.specs.declared.Returned.{Returned}
 use Rattle.session.specs.Promise.{Turned}
 use Rattle.setup.specs.Steps.{Asks, Comes}

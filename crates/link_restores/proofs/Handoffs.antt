@@ -1,19 +1,19 @@
 -- The handoff of a restore, where it lies. Assumes nothing.
 use Rattle.std.specs.Prelude.{if◌then◌else◌}
-use Prim.Native.Nat.{ℕ, ◌+◌, ◌≤◌, ◌<◌}
+use Prim.Native.Nat.{ℕ, ◌+◌, ◌≤◌}
 use mathlib.Core.Path.{◌≡◌, refl, sym, ap, ◌∙◌, subst}
 use mathlib.Core.Bool.{Bool, true, false, true≢false}
 use mathlib.Core.List.{List, [], ◌∷◌}
 use mathlib.Core.Option.{none, some}
 use native.Mathlib.Omega.{arith}
 use lib.ListN.{length, take, drop, set, length-set}
-use lib.Seq.{get_or-set_same, get_or-set_other, get_or-take, get_or-drop, take-take, take_at, drop-set-lt}
+use lib.Seq.{get_or-set_same, get_or-set_other, take-take, take_at, drop-set-lt}
 use borrow.Author.Tests.{eq-eqb, ne_eqb}
 use Rattle.rules.specs.Lists.{Bytes, same}
 use Rattle.rules.specs.Answers.{flag_value}
 use Rattle.rules.specs.Start.{handoff_size}
 use Rattle.stores.specs.Placed.{placed}
-use Rattle.stores.proofs.Laws.{length-placed, take_placed_le, drop-placed, drop_placed_ge}
+use Rattle.stores.proofs.Laws.{length-placed, drop-placed}
 use Rattle.peer_session.specs.View.{handoff_of, handoff_length}
 use Rattle.restores.specs.declared.Handoff.{Handoff}
 use Rattle.restores.specs.Restored.{given_in, handoff_given}

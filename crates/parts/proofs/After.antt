@@ -1,19 +1,18 @@
 -- What calls on messages and acks leave alone: the session afterwards, with the fields that they may change. Assumes nothing.
-use Prim.Native.Nat.{ℕ, ◌+◌, ◌≤◌}
-use mathlib.Core.Path.{◌≡◌, refl, sym, ap, ◌∙◌}
+use Prim.Native.Nat.{ℕ, ◌≤◌}
+use mathlib.Core.Path.{◌≡◌, refl, ap}
 use mathlib.Core.List.{List}
 use native.Mathlib.Omega.{arith}
 use lib.Ieee.{Float}
-use lib.ListN.{length, set, length-set}
+use lib.ListN.{length}
 use Rattle.rules.specs.declared.Clock.{Clock}
 use Rattle.numbers.specs.declared.Numbers.{Numbers}
 use Rattle.outbox.specs.declared.Outbox.{Outbox}
 use Rattle.peer_session.specs.declared.TerminalHandoff.{TerminalHandoff}
 use Rattle.peer_session.specs.declared.SessionState.{SessionState}
 use Rattle.parts.specs.Codes.{stage_of}
-use Rattle.parts.specs.Parts.{Parts, parts, at, outbox_in, queue_in, waiting_in, retry_in, clock_in, codes_in, handoff_in, policy_in, reject_in, opened_of}
-use Rattle.parts.specs.Frames.{Past, Only}
-use Rattle.parts.proofs.Fields.{Agree, agree_within, agree_past, agree_set, agree_then, agree_only, agree_above, queue-same, codes_same, policy-same, reject-same}
+use Rattle.parts.specs.Parts.{parts, at, outbox_in, waiting_in, retry_in, clock_in, handoff_in, opened_of}
+use Rattle.parts.proofs.Fields.{Agree, agree_within, queue-same, codes_same, policy-same, reject-same}
 use Rattle.parts.proofs.Opened.{opened_as}
 
 -- remote, queue, stage, policy and reject body stay

@@ -1,16 +1,13 @@
 -- Which numbers of the parts a field of the session depends on: where these are the same, so is the field. Assumes nothing.
-use Prim.Native.Nat.{ℕ, ◌+◌, ◌-◌, ◌≤◌, ◌<◌}
-use mathlib.Core.Path.{◌≡◌, refl, sym, ap, ◌∙◌}
-use mathlib.Core.Bool.{Bool}
+use Prim.Native.Nat.{ℕ, ◌+◌, ◌≤◌, ◌<◌}
+use mathlib.Core.Path.{◌≡◌, sym, ◌∙◌}
 use mathlib.Core.List.{List}
 use native.Mathlib.Omega.{arith}
 use lib.Ieee.{Float}
-use lib.ListN.{length, take, drop, get_or, set, length-take, length-drop}
+use lib.ListN.{length, drop, set, length-take, length-drop}
 use lib.Seq.{ext_get_or, get_or-take, get_or-drop, get_or-set_other}
-use Rattle.outbox.specs.declared.Unacked.{Unacked}
-use Rattle.queue.specs.declared.Queued.{Queued}
 use Rattle.parts.specs.Seats.{seats}
-use Rattle.parts.specs.Parts.{at, flag, section, unacked_at, outbox_in, queued_at, queue_in, numbers_in, clock_in, codes_in, handoff_in, policy_in, reject_in}
+use Rattle.parts.specs.Parts.{at, section, unacked_at, outbox_in, queued_at, queue_in, numbers_in, clock_in, codes_in, handoff_in, policy_in, reject_in}
 use Rattle.parts.specs.Frames.{Past, Only}
 use Rattle.parts.proofs.Seats.{seats-same}
 

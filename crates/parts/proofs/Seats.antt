@@ -4,8 +4,8 @@ use mathlib.Core.Path.{◌≡◌, refl, sym, ap, ◌∙◌}
 use mathlib.Core.List.{List, [], ◌∷◌, ◌++◌, map}
 use native.Mathlib.Numerals.{add-one}
 use native.Mathlib.Omega.{arith}
-use lib.ListN.{length, take, drop, get_or, set, length-take, length-map}
-use lib.Seq.{slice, slice-cons, ext_get_or, get_or-take}
+use lib.ListN.{length, take, get_or}
+use lib.Seq.{slice, slice-cons, ext_get_or}
 use Rattle.parts.specs.Seats.{seats}
 
 module _ {A : Type 0} where

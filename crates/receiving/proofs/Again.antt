@@ -1,14 +1,11 @@
 -- A duplicate. Assumes nothing.
 use Rattle.std.specs.Prelude.{if◌then◌else◌}
-use mathlib.Core.Path.{◌≡◌, refl, sym, ap, ◌∙◌, subst}
-use mathlib.Core.Bool.{Bool, true, false}
-use mathlib.Core.List.{List, [], ◌∷◌, ◌++◌}
-use Prim.Native.Nat.{ℕ, ◌+◌, ◌*◌, ◌≤◌, ◌<◌}
-use native.Mathlib.Omega.{arith}
-use lib.ListN.{length}
+use mathlib.Core.Path.{◌≡◌, refl, sym, ap, ◌∙◌}
+use mathlib.Core.Bool.{Bool}
+use mathlib.Core.List.{List, [], ◌∷◌}
+use Prim.Native.Nat.{ℕ, ◌*◌, ◌≤◌, ◌<◌}
 use borrow.Author.Tests.{le-leb, lt-leb}
 use Rattle.stores.specs.Placed.{placed}
-use Rattle.rules.specs.declared.Clock.{Clock}
 use Rattle.rules.specs.Lists.{Bytes, packed, put, itself}
 use Rattle.rules.specs.State.{Unacked, State}
 use Rattle.rules.specs.Events.{answer_ack, listed}
@@ -16,15 +13,14 @@ use Rattle.rules.specs.Progress.{Progress, goes, stays, ◌then◌, request}
 use Rattle.rules.specs.Receiving.{receive_again, awaiting}
 use Rattle.rules.specs.Buffers.{flat}
 use Rattle.events.specs.declared.Stop.TheVariants.{No}
-use Rattle.events.specs.Written.{ListedIn, Listed, asked, Books, books, write, Within, final, ends}
+use Rattle.events.specs.Written.{Listed, asked, books, final, ends}
 use Rattle.events.proofs.Laws.{then_goes, write-none}
 use Rattle.numbers.specs.declared.Numbers.{Numbers}
 use Rattle.numbers.specs.Seats.{in_use, Holds}
 use Rattle.peer_session.specs.declared.SessionState.{SessionState}
-use Rattle.peer_session.specs.View.{state_of, Exact}
+use Rattle.peer_session.specs.View.{state_of}
 use Rattle.delivery.proofs.Written.{write-asked}
-use Rattle.draining.specs.declared.Ended.{Ended}
-use Rattle.receiving.specs.Checks.{again, Acknowledges}
+use Rattle.receiving.specs.Checks.{Acknowledges}
 use Rattle.draining.proofs.Failing.{listed-books, fresh-books}
 
 -- ---- a commit is requested, in the books

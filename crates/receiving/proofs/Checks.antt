@@ -1,6 +1,6 @@
 -- The checks of data, test by test, and what the rule book makes of them. Assumes nothing.
 use Rattle.std.specs.Prelude.{if◌then◌else◌}
-use mathlib.Core.Path.{◌≡◌, refl, sym, ap, ◌∙◌, subst}
+use mathlib.Core.Path.{◌≡◌, refl, sym, ap, subst}
 use mathlib.Core.Bool.{Bool, true, false, not, ◌&&◌}
 use mathlib.Core.List.{List, [], ◌∷◌}
 use Prim.Native.Nat.{ℕ, ◌+◌, ◌-◌, ◌≤◌, ◌<◌}
@@ -11,14 +11,12 @@ use borrow.Author.Tests.{le-leb, lt-leb, lt-ltb, le-ltb, leb-true, leb-false, lt
 use Rattle.rules.specs.declared.HostStatus.{HostStatus}
 use Rattle.rules.specs.declared.Refusal.TheVariants.{BodyTooLong, GapTooWide, LastNumber, AcksFull, GenerationsExhausted}
 use Rattle.rules.specs.declared.Answer.TheVariants.{Flag, Refused}
-use Rattle.rules.specs.Lists.{Bytes, every, any, has}
-use Rattle.rules.specs.State.{Frame, State, is_frame}
-use Rattle.rules.specs.Clock.{at_limit}
-use Rattle.rules.specs.Progress.{Progress, ◌then◌, failing, Outcome, outcome, answers, ◌refuses◌when◌else◌, ◌fails◌when◌else◌}
-use Rattle.rules.specs.Receiving.{duplicate, answered, queued, too_long, too_far, past_last, acks_full, queue_full, queue_overrun, at_once, from_ahead, receive, receive_data, joins_queue}
+use Rattle.rules.specs.Lists.{Bytes, every, has}
+use Rattle.rules.specs.State.{Frame, State}
+use Rattle.rules.specs.Progress.{◌then◌, failing, outcome, answers, ◌refuses◌when◌else◌, ◌fails◌when◌else◌}
+use Rattle.rules.specs.Receiving.{duplicate, queued, too_long, too_far, past_last, acks_full, queue_full, queue_overrun, at_once, from_ahead, receive, receive_data, joins_queue}
 use Rattle.rules.specs.Buffers.{queue_end, queue_reach}
 use Rattle.rules.specs.Calls.{gets_data, step}
-use Rattle.rules.proofs.Lists.{both}
 use Rattle.numbers.specs.Seats.{in_use, ExactNumbers}
 use Rattle.numbers.proofs.Laws.{exact-length}
 use Rattle.queue.specs.View.{frames_of, ExactQueue}
@@ -26,7 +24,7 @@ use Rattle.queue.proofs.View.{frames-length}
 use Rattle.peer_session.specs.declared.SessionState.{SessionState}
 use Rattle.receiving.specs.declared.Verdict.{Verdict}
 use Rattle.receiving.specs.declared.Verdict.TheVariants.{Refuse, Fail, Again, New}
-use Rattle.receiving.specs.Checks.{verdict_of, again, anew, ruled, joins, reach_new, reached, NewFrame}
+use Rattle.receiving.specs.Checks.{verdict_of, again, anew, ruled, joins, reached, NewFrame}
 
 -- ---- 26
 

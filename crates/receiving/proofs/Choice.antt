@@ -1,30 +1,25 @@
 -- Whether data is delivered now or waits, and what the rule book makes of either. Assumes nothing.
 use Rattle.std.specs.Prelude.{if◌then◌else◌}
-use mathlib.Core.Path.{◌≡◌, refl, sym, ap, ◌∙◌, subst}
+use mathlib.Core.Path.{◌≡◌, refl, sym, ap, ◌∙◌}
 use mathlib.Core.Bool.{Bool, true, false, not, ◌&&◌, ◌||◌}
 use mathlib.Core.List.{List, [], ◌∷◌}
 use Prim.Native.Nat.{ℕ, ◌+◌, ◌-◌, ◌≤◌, ◌<◌}
 use native.Mathlib.Omega.{arith}
-use lib.ListN.{length, drop}
+use lib.ListN.{length}
 use lib.Dec.{leb, ltb, eqb}
-use borrow.Author.Tests.{eq-eqb, ne_eqb, eqb-true, eqb-false, ltb-true, lt-ltb, le-ltb, le-leb, ltb-false}
+use borrow.Author.Tests.{eq-eqb, ne_eqb, eqb-true, eqb-false, ltb-true, lt-ltb, le-ltb, le-leb}
 use Rattle.rules.specs.declared.HostStatus.{HostStatus}
 use Rattle.rules.specs.declared.ReceiveMode.{ReceiveMode}
-use Rattle.rules.specs.Lists.{Bytes, every, kept, rising}
+use Rattle.rules.specs.Lists.{every, kept, rising}
 use Rattle.rules.specs.State.{Frame, State, is_proposal, frame_number, is_frame, queue_is}
-use Rattle.rules.specs.Progress.{Progress}
-use Rattle.rules.specs.Receiving.{available, deliverable, terminal, above, other_than, keeping, enqueue, deliver, is_next, at_once, from_ahead, receive_new, queued, queue_full, queue_overrun}
+use Rattle.rules.specs.Receiving.{available, deliverable, above, other_than, keeping, enqueue, deliver, is_next, at_once, from_ahead, receive_new, queued, queue_full, queue_overrun}
 use Rattle.rules.specs.Sound.{sound_frame}
 use Rattle.rules.specs.Buffers.{queue_end}
-use Rattle.rules.proofs.Lists.{both, and_left, and_right, true_every, if_rule}
-use Rattle.queue.specs.declared.Queue.{Queue}
-use Rattle.queue.specs.View.{frames_of}
-use Rattle.queue.specs.Steps.{Leads}
-use Rattle.queue.proofs.View.{above-is}
+use Rattle.rules.proofs.Lists.{both, and_left, and_right, true_every}
 use Rattle.delivery.specs.declared.Turn.{Turn}
-use Rattle.delivery.specs.Turns.{frame_of, during, Under}
+use Rattle.delivery.specs.Turns.{frame_of, during}
 use Rattle.delivery.specs.Acts.{Available, Deliverable}
-use Rattle.receiving.specs.Checks.{NewFrame, Terminal, Delivers, joins, reach_new}
+use Rattle.receiving.specs.Checks.{NewFrame, Terminal, Delivers, reach_new}
 
 -- ---- what is asked of a turn
 

@@ -1,16 +1,16 @@
 -- receive_data. Assumes nothing.
 use mathlib.Core.Path.{◌≡◌, refl, sym, ap, ◌∙◌, subst}
-use mathlib.Core.Bool.{Bool, true, false}
-use mathlib.Core.List.{List, []}
+use mathlib.Core.Bool.{true, false}
+use mathlib.Core.List.{List}
 use Prim.Native.Nat.{ℕ, ◌+◌, ◌*◌, ◌≤◌, ◌<◌}
 use native.Mathlib.Omega.{arith}
 use lib.ListN.{length}
 use borrow.Author.Tests.{le-ltb, lt-ltb}
 use Rattle.rules.specs.declared.HostStatus.{HostStatus}
-use Rattle.rules.specs.declared.Answer.TheVariants.{Flag, Refused}
+use Rattle.rules.specs.declared.Answer.TheVariants.{Flag}
 use Rattle.rules.specs.declared.Refusal.{Refusal}
 use Rattle.rules.specs.declared.Refusal.TheVariants.{GenerationsExhausted}
-use Rattle.rules.specs.Lists.{Bytes, put, itself, packed}
+use Rattle.rules.specs.Lists.{Bytes, packed}
 use Rattle.rules.specs.State as R
 use Rattle.rules.specs.State.{Frame, State, frame_body, body_of}
 use Rattle.rules.specs.Progress.{Progress, halts, failing, answers}
@@ -18,12 +18,12 @@ use Rattle.rules.specs.Calls.{Call, gets_data, step}
 use Rattle.rules.specs.Buffers.{takes, taken_by, wrong_code, repacked, queue_end, queue_reach}
 use Rattle.rules.proofs.Lists.{length-packed}
 use Rattle.rules.proofs.Buffers.{repacked-same}
-use Rattle.rules.proofs.Sound.{Sound, parts-sound, awaiting-sound}
+use Rattle.rules.proofs.Sound.{parts-sound, awaiting-sound}
 use Rattle.events.specs.declared.Stop.{Stop}
-use Rattle.events.specs.declared.Stop.TheVariants.{No, By}
+use Rattle.events.specs.declared.Stop.TheVariants.{By}
 use Rattle.events.specs.Written.{books, final, ends}
 use Rattle.events.proofs.Laws.{write-none}
-use Rattle.numbers.specs.Seats.{in_use, ExactNumbers}
+use Rattle.numbers.specs.Seats.{ExactNumbers}
 use Rattle.outbox.specs.declared.Outbox.{Outbox}
 use Rattle.outbox.specs.View.{end_u, unacked_of}
 use Rattle.queue.specs.declared.Queue.{Queue}
@@ -32,11 +32,10 @@ use Rattle.queue.proofs.View.{frames-bytes, frames-total}
 use Rattle.peer_session.specs.declared.SessionState.{SessionState}
 use Rattle.peer_session.specs.View.{held, state_of, Exact}
 use Rattle.peer_session.specs.Sound.{sound_of, Full}
-use Rattle.peer_session.proofs.View.{Good, sound-good}
+use Rattle.peer_session.proofs.View.{Good}
 use Rattle.session.specs.declared.Returned.{Returned}
-use Rattle.session.specs.Promise.{lent, exit, promise, Called, Turned}
-use Rattle.session.proofs.Entry.{Entered, entered}
-use Rattle.delivery.specs.Turns.{frame_of}
+use Rattle.session.specs.Promise.{lent, exit, Called, Turned}
+use Rattle.session.proofs.Entry.{entered}
 use Rattle.receiving.specs.declared.Verdict.{Verdict}
 use Rattle.receiving.specs.declared.Verdict.TheVariants.{Refuse, Fail, Again, New}
 use Rattle.draining.specs.declared.Ended.{Ended}

@@ -1,13 +1,12 @@
 -- Data that waits in the queue. Assumes nothing.
 use Rattle.std.specs.Prelude.{if◌then◌else◌}
 use mathlib.Core.Path.{◌≡◌, refl, sym, ap, ◌∙◌, subst}
-use mathlib.Core.Bool.{Bool, true, false, not, ◌||◌}
+use mathlib.Core.Bool.{Bool, true, false, not}
 use mathlib.Core.List.{List, [], ◌∷◌, ◌++◌}
-use Prim.Native.Nat.{ℕ, ◌+◌, ◌-◌, ◌*◌, ◌≤◌, ◌<◌, max}
+use Prim.Native.Nat.{ℕ, ◌+◌, ◌-◌, ◌≤◌, ◌<◌, max}
 use native.Mathlib.Omega.{arith}
 use lib.ListN.{length, take, drop, replicate, take-append-drop}
 use lib.Seq.{drop_at, drop-drop}
-use lib.Dec.{ltb}
 use borrow.Author.Tests.{lt-ltb, le-ltb}
 use Rattle.stores.specs.Fronts.{front}
 use Rattle.stores.proofs.Packs.{repacked-grown}
@@ -15,37 +14,34 @@ use Rattle.stores.proofs.Seats.{put-after}
 use Rattle.rules.specs.declared.HostStatus.{HostStatus}
 use Rattle.rules.specs.declared.Refusal.{Refusal}
 use Rattle.rules.specs.declared.Refusal.TheVariants.{QueueCount, QueueBytes}
-use Rattle.rules.specs.Lists.{Bytes, every, any, all, total, packed, put}
+use Rattle.rules.specs.Lists.{Bytes, every, any, total, packed, put}
 use Rattle.rules.specs.State as R
 use Rattle.rules.specs.State.{Frame, State, frame_number, frame_body, frame_size, is_frame, queue_is}
-use Rattle.rules.specs.Progress.{Progress, goes, stays, halts, ◌then◌, request, failing}
+use Rattle.rules.specs.Progress.{Progress, stays, halts, ◌then◌, request}
 use Rattle.rules.specs.Receiving.{up_to, queued, queue_full, queue_overrun, enqueue, drain, receive_new}
-use Rattle.rules.specs.Sound.{sound, sound_frame}
 use Rattle.rules.specs.Buffers.{repacked, queue_end}
 use Rattle.rules.proofs.Lists.{total-append, length-packed}
-use Rattle.rules.proofs.Sound.{Sound, sound-parts, parts-sound}
+use Rattle.rules.proofs.Sound.{Sound, parts-sound}
 use Rattle.events.specs.declared.Stop.TheVariants.{No, By}
 use Rattle.events.specs.Written.{Listed, asked, books, final, ends}
 use Rattle.events.proofs.Laws.{then_goes, then_stops, write-none}
-use Rattle.numbers.specs.Seats.{in_use, ExactNumbers}
 use Rattle.queue.specs.declared.Queue.{Queue}
-use Rattle.queue.specs.View.{end_q, frames_of, ExactQueue, Repacked}
+use Rattle.queue.specs.View.{end_q, frames_of, Repacked}
 use Rattle.queue.specs.Steps.{Enters}
 use Rattle.queue.proofs.View.{frames-total, frames-length}
 use Rattle.peer_session.specs.declared.SessionState.{SessionState}
-use Rattle.peer_session.specs.View.{state_of, fixed_of, Exact}
+use Rattle.peer_session.specs.View.{state_of, Exact}
 use Rattle.delivery.specs.declared.Turn.{Turn}
-use Rattle.delivery.specs.Turns.{during, Under}
 use Rattle.delivery.proofs.Written.{few-asked}
 use Rattle.draining.specs.declared.Ended.{Ended}
 use Rattle.draining.specs.Turns.{turn_of, with_queue}
-use Rattle.draining.specs.Ends.{Stores, Fails, Carrying, Carries}
+use Rattle.draining.specs.Ends.{Fails, Carrying, Carries}
 use Rattle.receiving.specs.Checks.{anew, reach_new, Receiving, Taking, Anew}
 use Rattle.draining.proofs.Settled.{begins}
 use Rattle.draining.proofs.Failing.{leaves-final, fails_final, fails_stores}
 use Rattle.draining.proofs.Failing.{fresh-books}
 use Rattle.receiving.proofs.Again.{asked-final}
-use Rattle.receiving.proofs.Choice.{new-queues, reach-later, frame-sound}
+use Rattle.receiving.proofs.Choice.{new-queues, reach-later}
 use Rattle.receiving.proofs.Now.{limits, good, new-sound, body-short, stored-end}
 
 -- ---- a store that grew and then shrank

@@ -1,8 +1,8 @@
 -- Data that is delivered now. Assumes nothing.
-use mathlib.Core.Path.{◌≡◌, refl, sym, ap, ◌∙◌, subst}
-use mathlib.Core.Bool.{Bool, true, false, ◌||◌}
+use mathlib.Core.Path.{◌≡◌, sym, ap, ◌∙◌, subst}
+use mathlib.Core.Bool.{true}
 use mathlib.Core.List.{List, [], ◌∷◌}
-use Prim.Native.Nat.{ℕ, ◌+◌, ◌-◌, ◌*◌, ◌≤◌, ◌<◌}
+use Prim.Native.Nat.{ℕ, ◌+◌, ◌*◌, ◌≤◌}
 use native.Mathlib.Omega.{arith}
 use lib.ListN.{length, drop}
 use lib.Dec.{leb}
@@ -12,32 +12,31 @@ use Rattle.rules.specs.declared.Refusal.{Refusal}
 use Rattle.rules.specs.Lists.{Bytes, kept, put, itself}
 use Rattle.rules.specs.State as R
 use Rattle.rules.specs.State.{Frame, State}
-use Rattle.rules.specs.Progress.{Progress, ◌then◌, request, failing}
+use Rattle.rules.specs.Progress.{Progress, ◌then◌, request}
 use Rattle.rules.specs.Start.{good_policy, good_reject}
-use Rattle.rules.specs.Receiving.{other_than, drain, receive_new, queued}
-use Rattle.rules.specs.Sound.{sound, sound_fixed}
+use Rattle.rules.specs.Receiving.{other_than, drain, receive_new}
+use Rattle.rules.specs.Sound.{sound_fixed}
 use Rattle.rules.proofs.Lists.{every_true}
 use Rattle.rules.proofs.Progress.{Leaves}
 use Rattle.rules.proofs.Sound.{Sound, sound-parts, parts-sound, room_for, receive-new-sound}
 use Rattle.events.specs.declared.Stop.{Stop}
 use Rattle.events.specs.declared.Stop.TheVariants.{No, By}
-use Rattle.events.specs.Written.{Listed, asked, books, Within, final, ends}
+use Rattle.events.specs.Written.{Listed, asked, books, final, ends}
 use Rattle.events.proofs.Laws.{then_goes, then_stops}
 use Rattle.numbers.specs.declared.Numbers.{Numbers}
-use Rattle.numbers.specs.Seats.{in_use, Holds, ExactNumbers}
+use Rattle.numbers.specs.Seats.{in_use, Holds}
 use Rattle.queue.specs.View.{end_q, frames_of}
 use Rattle.queue.specs.Steps.{Leads}
 use Rattle.queue.proofs.View.{frames-total, above-is}
 use Rattle.peer_session.specs.declared.SessionState.{SessionState}
-use Rattle.peer_session.specs.View.{state_of, Exact}
+use Rattle.peer_session.specs.View.{state_of}
 use Rattle.delivery.specs.declared.Turn.{Turn}
 use Rattle.delivery.specs.declared.Step.{Step}
 use Rattle.delivery.specs.Turns.{during, Under, Ready, left_by, acked_by, Delivered}
 use Rattle.delivery.proofs.Written.{few-asked}
 use Rattle.draining.specs.declared.Ended.{Ended}
-use Rattle.draining.specs.Turns.{turn_of, Settling}
 use Rattle.draining.specs.Ends.{Stores, Abandoning, Abandons, Carrying, Carries}
-use Rattle.receiving.specs.Checks.{anew, reach_new, NewFrame, Receiving, Taking, Anew}
+use Rattle.receiving.specs.Checks.{anew, reach_new, Receiving, Taking, Anew}
 use Rattle.draining.proofs.Settled.{begins}
 use Rattle.draining.proofs.Failing.{leaves-final}
 use Rattle.draining.proofs.Carried.{settling}

@@ -1,9 +1,7 @@
 -- What becomes of data, by the checks past its kind and the generation, and what the stores reach by it. Assumes nothing.
 use Rattle.std.specs.Prelude.{ℕ, ◌+◌, ◌≤◌, ◌<◌, ◌≡◌, Bool, true, false, not, ◌||◌, List, [], ◌∷◌, length, if◌then◌else◌}
 use Rattle.rules.specs.declared.HostStatus.{HostStatus}
-use Rattle.rules.specs.declared.Refusal.{Refusal}
 use Rattle.rules.specs.declared.Refusal.TheVariants.{BodyTooLong, GapTooWide, LastNumber, AcksFull}
-use Rattle.rules.specs.declared.Answer.{Answer}
 use Rattle.rules.specs.declared.Answer.TheVariants.{Flag, Refused}
 use Rattle.rules.specs.Lists.{Bytes, every, put, itself}
 use Rattle.rules.specs.State.{Frame, State, Unacked}
@@ -11,8 +9,7 @@ use Rattle.rules.specs.Progress.{Progress, ◌then◌, request, halts, failing, 
 use Rattle.rules.specs.Receiving.{duplicate, queued, too_long, too_far, past_last, acks_full, queue_full, queue_overrun, terminal, drain, receive_again, at_once, from_ahead, receive_new}
 use Rattle.rules.specs.Sound.{sound}
 use Rattle.rules.specs.Buffers.{queue_end}
-use Rattle.events.specs.declared.Stop.{Stop}
-use Rattle.events.specs.declared.Stop.TheVariants.{No, By}
+use Rattle.events.specs.declared.Stop.TheVariants.{No}
 use Rattle.events.specs.Written.{books, final, ends}
 use Rattle.numbers.specs.Seats.{in_use, ExactNumbers}
 use Rattle.queue.specs.View.{ExactQueue}

@@ -1,27 +1,25 @@
 -- A send, test by test. Assumes nothing.
-use mathlib.Core.Path.{◌≡◌, refl, sym, ap, ◌∙◌}
-use mathlib.Core.Bool.{Bool, true, false}
+use mathlib.Core.Path.{◌≡◌, refl, ap, ◌∙◌}
+use mathlib.Core.Bool.{true, false}
 use mathlib.Core.List.{List, []}
 use Prim.Native.Nat.{ℕ, ◌+◌, ◌≤◌, ◌<◌}
 use native.Mathlib.Omega.{arith}
 use lib.ListN.{length}
 use borrow.Author.Tests.{le-leb, lt-leb}
-use Rattle.rules.specs.declared.Clock.{Clock}
 use Rattle.rules.specs.declared.Answer.TheVariants.{Number, Refused}
 use Rattle.rules.specs.declared.Refusal.{Refusal}
 use Rattle.rules.specs.declared.Refusal.TheVariants.{ShortBuffer, BadRecord, GenerationsExhausted}
 use Rattle.rules.specs.Lists.{Bytes, packed}
 use Rattle.rules.specs.State as R
 use Rattle.rules.specs.State.{body_of}
-use Rattle.rules.specs.Progress.{Progress, goes, stops, stays, halts, request, ◌then◌, outcome, answers}
+use Rattle.rules.specs.Progress.{stays, halts, request, outcome}
 use Rattle.rules.specs.Sending.{allocate, send}
 use Rattle.rules.specs.Calls.{sends, step}
 use Rattle.rules.specs.Buffers.{taken_by, short, wrong_code, queue_reach, repacked}
 use Rattle.events.specs.declared.Stop.{Stop}
 use Rattle.events.specs.declared.Stop.TheVariants.{No, By}
 use Rattle.events.specs.Written.{Listed, asked, ended}
-use Rattle.outbox.specs.declared.Outbox.{Outbox}
-use Rattle.outbox.specs.View.{end_u, unacked_of, outbox_of}
+use Rattle.outbox.specs.View.{unacked_of, outbox_of}
 use Rattle.outbox.proofs.View.{exact-total}
 use Rattle.peer_session.specs.declared.Allocated.{Allocated}
 use Rattle.peer_session.specs.declared.SessionState.{SessionState}
@@ -31,7 +29,7 @@ use Rattle.peer_session.specs.Allocates.{grown, Allocates}
 use Rattle.peer_session.proofs.View.{exact-held}
 use Rattle.session.specs.declared.Returned.{Returned}
 use Rattle.session.specs.Promise.{lent, Called, Turned}
-use Rattle.session.proofs.Promises.{list_written, Follows}
+use Rattle.session.proofs.Promises.{list_written}
 use Rattle.session.proofs.Lengths.{short-list, short-outbound, long-enough, not_taken}
 use Rattle.session.proofs.Entry.{Entered, entered, is-short, is_unsound, meets, is_refused}
 

@@ -8,15 +8,14 @@ use native.Mathlib.Omega.{arith}
 use lib.ListN.{length, take, drop, replicate, length-append, length-replicate, length-map, drop_of_length-le}
 use lib.Seq.{take-append_seam}
 use borrow.Author.Tests.{lt-ltb, le-ltb}
-use Rattle.rules.specs.declared.Answer.{Answer}
-use Rattle.rules.specs.declared.Answer.TheVariants.{Done, Refused}
+use Rattle.rules.specs.declared.Answer.TheVariants.{Done}
 use Rattle.rules.specs.declared.Policy.{Policy}
 use Rattle.rules.specs.declared.Refusal.{Refusal}
 use Rattle.rules.specs.declared.Refusal.TheVariants.{ShortBuffer}
 use Rattle.rules.specs.Lists.{Bytes, total, itself, packed}
 use Rattle.rules.specs.State as R
 use Rattle.rules.specs.State.{body_of}
-use Rattle.rules.specs.Start.{Reliable, Start, started, unstarted, start, new, as_sent}
+use Rattle.rules.specs.Start.{Start, started, unstarted, start, new, as_sent}
 use Rattle.rules.specs.Buffers.{Lent, takes, short, filled, new_stores}
 use Rattle.stores.specs.Placed.{placed}
 use Rattle.stores.proofs.Laws.{placed-placed, length-placed}
@@ -24,13 +23,13 @@ use Rattle.outbox.specs.declared.Outbox.{Outbox}
 use Rattle.outbox.specs.View.{used_u}
 use Rattle.peer_session.specs.declared.RejectBody.{RejectBody}
 use Rattle.peer_session.specs.declared.SessionState.{SessionState}
-use Rattle.peer_session.specs.View.{Held, encode, state_of, reject_of}
+use Rattle.peer_session.specs.View.{encode, state_of, reject_of}
 use Rattle.peer_session.specs.New.{New}
 use Rattle.peer_session.proofs.Held.{agree}
 use Rattle.peer_session.proofs.Fresh.{new-state}
 use Rattle.session.specs.declared.Returned.{Returned}
 use Rattle.session.proofs.Promises.{exit_cong}
-use Rattle.session.specs.Promise.{exit, lent}
+use Rattle.session.specs.Promise.{lent}
 use Rattle.starts.specs.declared.Reliable as Code
 use Rattle.starts.specs.declared.Verdict.TheVariants as Found
 use Rattle.starts.specs.Started.{messages_of, short_record, begins, start_promise, Started}

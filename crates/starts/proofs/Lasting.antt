@@ -1,22 +1,21 @@
 -- A start that is not refused hands out a sound session. Assumes nothing.
-use mathlib.Core.Path.{◌≡◌, refl, sym, ap, ◌∙◌}
-use mathlib.Core.Bool.{Bool, true, false, ◌&&◌, ◌||◌}
+use mathlib.Core.Path.{◌≡◌, sym, ap, ◌∙◌}
+use mathlib.Core.Bool.{true, false, ◌&&◌, ◌||◌}
 use mathlib.Core.List.{List, []}
-use Prim.Native.Nat.{ℕ, ◌≤◌}
+use Prim.Native.Nat.{ℕ}
 use native.Mathlib.Omega.{arith}
 use lib.Dec.{ltb}
 use borrow.Author.Tests.{ltb-false}
-use Rattle.rules.specs.declared.Answer.{Answer}
-use Rattle.rules.specs.declared.Answer.TheVariants.{Done, Refused}
+use Rattle.rules.specs.declared.Answer.TheVariants.{Done}
 use Rattle.rules.specs.declared.Policy.{Policy}
 use Rattle.rules.specs.declared.Refusal.{Refusal}
 use Rattle.rules.specs.Lists.{Bytes}
-use Rattle.rules.specs.Start.{Reliable, Start, started, unstarted, good_record, good_policy, good_reject, new, start}
+use Rattle.rules.specs.Start.{Reliable, Start, unstarted, good_record, good_policy, good_reject, new, start}
 use Rattle.rules.specs.Buffers.{Lent, takes, short}
 use Rattle.rules.proofs.Lists.{if_rule, and_left, and_right}
 use Rattle.rules.proofs.Sound.{parts-sound, new-sound}
 use Rattle.peer_session.specs.declared.SessionState.{SessionState}
-use Rattle.peer_session.specs.View.{held, encode}
+use Rattle.peer_session.specs.View.{held}
 use Rattle.peer_session.specs.Sound.{sound_of, Full}
 use Rattle.peer_session.proofs.Lasting.{settles-sound}
 use Rattle.session.specs.declared.Returned.{Returned}

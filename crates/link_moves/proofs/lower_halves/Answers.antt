@@ -1,4 +1,3 @@
-use Prim.Native.Nat.{◌-◌}
 use native.Mathlib.Omega.{arith}
 use Rattle.link_moves.proofs.Moves.{lowered_none, lowered_more, lowered_all}
 use Rattle.link_moves.proofs.lower_halves.Goals as goal

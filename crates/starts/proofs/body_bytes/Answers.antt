@@ -1,5 +1,4 @@
 use native.Mathlib.Omega.{arith}
-use Prim.Native.Nat.{◌-◌}
 use Rattle.starts.proofs.Slices.{summed_room, summed_more, summed_all}
 use Rattle.starts.proofs.body_bytes.Goals as goal
 

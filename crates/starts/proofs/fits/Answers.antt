@@ -1,5 +1,4 @@
 use mathlib.Core.Path.{sym}
-use Prim.Native.Nat.{◌-◌}
 use Rattle.starts.proofs.Slices.{counted_more, counted_out, counted_all}
 use Rattle.starts.proofs.fits.Goals as goal
 

@@ -1,5 +1,4 @@
 use native.Mathlib.Omega.{arith}
-use Prim.Native.Nat.{◌-◌}
 use Rattle.starts.proofs.Slices.{filling_none, filling_more, filling_all, length-small}
 use Rattle.starts.proofs.records.Goals as goal
 

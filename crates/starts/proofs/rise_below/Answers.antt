@@ -1,5 +1,4 @@
 use mathlib.Core.Path.{sym}
-use Prim.Native.Nat.{◌-◌}
 use Rattle.starts.proofs.Slices.{risen_none, risen_more, risen_not, risen_over, risen_all}
 use Rattle.starts.proofs.rise_below.Goals as goal
 
