@@ -1,15 +1,12 @@
+use Prim.Native.Nat.{◌-◌}
 use native.Mathlib.Omega.{arith}
-use mathlib.Core.Path.{sym}
-use lib.ListN.{length-replicate, get_or-replicate}
-use Rattle.stores.proofs.Runs.{run_none, run_more, run-all}
-use borrow.Author.Rules.{rules}
+use mathlib.Core.Path.{◌≡◌, sym, ap, ◌∙◌}
+use lib.ListN.{length, take, drop, replicate, length-replicate, length-take, length-drop}
+use Rattle.stores.proofs.Laws.{put_mid-placed}
 use Rattle.stores.proofs.clear.Goals as goal
 
-pub loop-j-init : goal.loop-j-init
-loop-j-init c = run_none _ _ _ (length-replicate _ 0) (omega arith)
-
-pub loop-j-preserved : goal.loop-j-preserved
-loop-j-preserved c = run_more c.loop-j.invariant 0 _ (search rules) (sym (get_or-replicate _ _ 0 0 c.loop-j-test.true))
-
 pub returns : goal.returns
-returns c = run-all c.loop-j.invariant c.loop-j-test.false
+returns c =
+    let size : length (take (c.args.e - c.args.a) (drop c.args.a c.args.store.now)) ≡ c.args.e - c.args.a = simp (length-take, length-drop) (omega arith) in
+    let zeros : c.fill.new.self ≡ replicate (c.args.e - c.args.a) 0 = c.fill.ensures.after (λ y h. h) ∙ ap (λ k. replicate k 0) size in
+    rw zeros (put_mid-placed _ _ _ _ (sym (length-replicate (c.args.e - c.args.a) 0)))

@@ -3,7 +3,4 @@ use Rattle.stores.proofs.Runs.{Down}
 use Rattle.stores.proofs.move_up.Given as goal
 
 abbrev pub invariant-loop-j : goal.invariant-loop-j
-invariant-loop-j l = Down l.initial.store l.to (take l.n (drop l.from l.initial.store)) l.n l.store l.j
-
-abbrev pub decreases-loop-j : goal.decreases-loop-j
-decreases-loop-j l = l.j
+invariant-loop-j g l = Down l.initial.store l.to (take l.n (drop l.from l.initial.store)) l.n l.store l.j
