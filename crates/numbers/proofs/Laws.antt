@@ -10,10 +10,9 @@ use Rattle.stores.specs.Placed.{placed}
 use Rattle.stores.proofs.Laws.{length-placed}
 use Rattle.stores.proofs.Packs.{slice-step, opened}
 use Rattle.stores.proofs.Seats.{Seated, seated}
-use Rattle.rules.specs.Lists.{itself, rising, has, put}
+use Rattle.rules.specs.Lists.{itself, rising, put}
 use Rattle.rules.specs.Sound.{ascending}
 use Rattle.rules.proofs.Lists as Lists
-use Rattle.rules.proofs.Inboxes as Inboxes
 use Rattle.numbers.specs.declared.Numbers.{Numbers}
 use Rattle.numbers.specs.Seats.{in_use, seat_of, ExactNumbers, Holds}
 
@@ -81,9 +80,6 @@ module _ (v : Numbers) (n k : ℕ) (few : v.count ≤ 512) (full : length v.valu
 -- how many numbers there are then: one more at most, and no more where the number is there
 pub put-length : (n : ℕ) (ns : List ℕ) → length (put itself n ns) ≤ suc (length ns)
 put-length n ns = Lists.put-length itself n ns
-
-pub put_has : (m n : ℕ) (ns : List ℕ) → rising itself m ns ≡ true → has n ns ≡ true → put itself n ns ≡ ns
-put_has m n ns = Inboxes.put_has m n ns
 
 -- ---- a set that ascends
 

@@ -12,6 +12,7 @@ ghost use Rattle.rules.specs.Sound.{at_most, ascending};
 ghost use Rattle.events.specs.Written.{Listed};
 ghost use Rattle.numbers.specs.Seats.{in_use, seat_of, step, Holds, ReleasesAcks};
 
+// Kept an array with a count: a session that was tampered with, even a count above 512, has to be a value of this type, to be refused by 3; and no heap.
 #[repr(C)]
 #[derive(Clone, Copy)]
 pub struct Numbers {
@@ -19,7 +20,7 @@ pub struct Numbers {
     pub count: usize,
 }
 
-// The numbers that stay, with the count of events listed so far.
+// The numbers that stay, with the count of events listed so far. Kept beside outbox's, whose one field differs: a generic one would read no plainer.
 #[derive(Clone, Copy)]
 pub struct Released {
     pub numbers: Numbers,
@@ -33,15 +34,7 @@ pub fn has(v: Numbers, n: u64) -> bool
     requires { v.count ≤ 512 }
     ensures { result ≡ has n (in_use v) }
 {
-    let count = v.count;
-    let mut i = 0;
-    while i < count {
-        if v.values[i] == n {
-            return true;
-        }
-        i += 1;
-    }
-    false
+    v.values[..v.count].contains(&n)
 }
 
 // Whether the numbers from index from on are above last and strictly rising.
@@ -49,16 +42,12 @@ pub fn rises(v: Numbers, from: usize, last: u64) -> bool
     requires { (from ≤ v.count) × (v.count ≤ 512) }
     ensures { result ≡ rising itself last (slice from v.count v.values) }
 {
-    let count = v.count;
     let mut top = last;
-    let mut i = from;
-    while i < count {
-        let x = v.values[i];
+    for &x in &v.values[from..v.count] {
         if x <= top {
             return false;
         }
         top = x;
-        i += 1;
     }
     true
 }
@@ -68,15 +57,7 @@ pub fn at_most(v: Numbers, limit: u64) -> bool
     requires { v.count ≤ 512 }
     ensures { result ≡ all (at_most limit) (in_use v) }
 {
-    let count = v.count;
-    let mut i = 0;
-    while i < count {
-        if limit < v.values[i] {
-            return false;
-        }
-        i += 1;
-    }
-    true
+    v.values[..v.count].iter().all(|&x| x <= limit)
 }
 
 // Whether the numbers are strictly rising, from any first one on.
@@ -98,30 +79,7 @@ fn seat(v: Numbers, n: u64) -> usize
     requires { v.count ≤ 512 }
     ensures { result ≡ seat_of n (in_use v) }
 {
-    let count = v.count;
-    let mut i = 0;
-    while i < count {
-        if n <= v.values[i] {
-            return i;
-        }
-        i += 1;
-    }
-    i
-}
-
-// The numbers from index at up to index count, one index higher.
-fn shift_up(values: [u64; 512], at: usize, count: usize) -> [u64; 512]
-    requires { (at ≤ count) × (count < 512) }
-    ensures { result ≡ placed values (at + 1) (take (count - at) (drop at values)) }
-{
-    let mut r = values;
-    let mut j = count - at;
-    while 0 < j {
-        j -= 1;
-        let u = r[at + j];
-        r[at + 1 + j] = u;
-    }
-    r
+    v.values[..v.count].iter().take_while(|&&x| x < n).count()
 }
 
 // With the number n at index at, and those from there on one index higher.
@@ -129,13 +87,12 @@ fn put_at(v: Numbers, n: u64, at: usize) -> Numbers
     requires { (at ≤ v.count) × (v.count < 512) }
     ensures { Holds (take at (in_use v) ++ (n ∷ drop at (in_use v))) result }
 {
-    let count = v.count;
-    let values = v.values;
-    let mut up = shift_up(values, at, count);
-    up[at] = n;
+    let mut values = v.values;
+    stores::move_up(&mut values, at + 1, at, v.count - at);
+    values[at] = n;
     Numbers {
-        values: up,
-        count: count + 1,
+        values,
+        count: v.count + 1,
     }
 }
 
@@ -145,56 +102,27 @@ pub fn put(v: Numbers, n: u64) -> Numbers
     ensures { Holds (put itself n (in_use v)) result }
 {
     let i = seat(v, n);
-    if i < v.count {
-        if v.values[i] == n {
-            return v;
-        }
-        return put_at(v, n, i);
+    if i < v.count && v.values[i] == n {
+        return v;
     }
     put_at(v, n, i)
 }
 
 // ---- dropped, and listed
 
-// 1 for a number that is not n.
-fn other(n: u64, x: u64) -> usize
-    ensures { result ≡ step (differs_from n x) }
-{
-    if n == x {
-        return 0;
-    }
-    1
-}
-
 // Without the number n.
 pub fn take_out(v: Numbers, n: u64) -> Numbers
     requires { v.count ≤ 512 }
     ensures { Holds (kept (differs_from n) (in_use v)) result }
 {
-    let count = v.count;
     let mut values = v.values;
     let mut k = 0;
-    let mut i = 0;
-    while i < count {
+    for i in 0..v.count {
         let x = values[i];
         values[k] = x;
-        k += other(n, x);
-        i += 1;
+        k += usize::from(x != n);
     }
-    Numbers {
-        values: values,
-        count: k,
-    }
-}
-
-// 1 for a number that a commit up to upto leaves.
-fn later(upto: u64, x: u64) -> usize
-    ensures { result ≡ step (ltb upto x) }
-{
-    if upto < x {
-        return 1;
-    }
-    0
+    Numbers { values, count: k }
 }
 
 // Lists a number that a commit up to upto releases.
@@ -214,26 +142,17 @@ pub fn release(v: Numbers, upto: u64, list: &mut [u64], n: usize) -> Released
     requires { (v.count ≤ 512) × (4 * (n + v.count) ≤ length list.old) }
     ensures { ReleasesAcks upto v list.old n result list.new }
 {
-    let count = v.count;
     let mut values = v.values;
     let mut events = n;
     let mut k = 0;
-    let mut i = 0;
-    while i < count {
+    for i in 0..v.count {
         let x = values[i];
         values[k] = x;
-        k += later(upto, x);
+        k += usize::from(upto < x);
         events = list_one(upto, x, list, events);
-        i += 1;
     }
-    let left = Numbers {
-        values: values,
-        count: k,
-    };
-    Released {
-        numbers: left,
-        events: events,
-    }
+    let numbers = Numbers { values, count: k };
+    Released { numbers, events }
 }
 
 // Lists each number by code 9, from event number n on.
@@ -242,12 +161,8 @@ pub fn list_all(v: Numbers, list: &mut [u64], n: usize) -> usize
     ensures listed { Listed (map send_ack (in_use v)) list.old n list.new result }
     ensures count { result ≡ n + v.count }
 {
-    let count = v.count;
-    let mut i = 0;
-    while i < count {
-        let x = v.values[i];
+    for (i, &x) in v.values[..v.count].iter().enumerate() {
         events::emit(list, n + i, 9, x, 0, 0);
-        i += 1;
     }
-    n + count
+    n + v.count
 }

@@ -1,23 +1,19 @@
 use native.Mathlib.Omega.{arith}
-use mathlib.Core.Path.{refl, sym, ◌∙◌}
-use Rattle.rules.specs.Lists.{itself}
+use mathlib.Core.Path.{sym, ap, ◌∙◌}
+use lib.Seq.{take-length}
+use Rattle.rules.specs.Lists.{rising, itself}
+use Rattle.stores.proofs.Packs.{drop-take}
 use Rattle.stores.proofs.Scans.{rises-on, rises_not, rises-none}
 use Rattle.numbers.proofs.rises.Goals as goal
 
-pub loop-i-init : goal.loop-i-init
-loop-i-init c = (omega arith, omega arith, refl)
+pub loop-x-init : goal.loop-x-init
+loop-x-init c = ap (rising itself c.args.last) (take-length _ ∙ sym (drop-take c.args.from c.args.v.count c.args.v.values))
 
 pub returns-then-x-top : goal.returns-then-x-top
-returns-then-x-top c =
-    let a = c.args in
-    sym (rises_not itself a.v.values c.loop-i.i a.v.count 0 (omega arith) (omega arith) c.loop-i.top c.if-x-top.true) ∙ c.loop-i.invariant.2
+returns-then-x-top c = sym (rises_not itself _ c.loop-x.x-index _ 0 c.loop-x-test.true (omega arith) c.loop-x.top c.if-x-top.true) ∙ c.loop-x.invariant
 
-pub loop-i-preserved : goal.loop-i-preserved
-loop-i-preserved c =
-    let a = c.args in
-    (omega arith, omega arith, sym (rises-on itself a.v.values c.loop-i.i a.v.count 0 (omega arith) (omega arith) c.loop-i.top c.if-x-top.false) ∙ c.loop-i.invariant.2)
+pub loop-x-preserved : goal.loop-x-preserved
+loop-x-preserved c = sym (rises-on itself _ c.loop-x.x-index _ 0 c.loop-x-test.true (omega arith) c.loop-x.top c.if-x-top.false) ∙ c.loop-x.invariant
 
 pub returns : goal.returns
-returns c =
-    let a = c.args in
-    sym (rises-none itself a.v.values c.loop-i.i a.v.count c.loop-i.top c.loop-i-test.false) ∙ c.loop-i.invariant.2
+returns c = sym (rises-none itself _ _ _ c.loop-x.top c.loop-x-test.false) ∙ c.loop-x.invariant

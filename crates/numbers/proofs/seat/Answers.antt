@@ -1,25 +1,18 @@
-use native.Mathlib.Omega.{arith}
-use borrow.Author.Tests.{lt-ltb, le-ltb}
-use Rattle.numbers.specs.Seats.{under, seat_of}
-use Rattle.stores.proofs.Scans.{front-on, front_not, front-none}
+use mathlib.Core.Path.{refl, ◌∙◌}
+use borrow.Author.Tests.{tests}
+use Rattle.std.proofs.Common.{rules}
+use Rattle.std.proofs.lemmas.Iterator.{YieldsList-from_slice}
+use Rattle.std.proofs.lemmas.Iterator.Consumers.{count_from_yields_List}
+use Rattle.std.proofs.lemmas.Iterator.Search.{YieldsList-from_take_while}
+use Rattle.std.proofs.lemmas.List.Folds.{length-prefix_len}
+use Rattle.stores.proofs.Words.{front_prefix}
+use Rattle.numbers.specs.Seats.{in_use, under, seat_of}
 use Rattle.numbers.proofs.seat.Goals as goal
-
-pub loop-i-init : goal.loop-i-init
-loop-i-init c = (omega arith, omega arith, omega arith)
-
-pub returns-then-n-v : goal.returns-then-n-v
-unfolding seat_of
-returns-then-n-v c =
-    let a = c.args in
-    omega (arith, c.loop-i.invariant.2, front_not (under a.n) a.v.values c.loop-i.i a.v.count 0 (omega arith) (omega arith) (le-ltb _ _ c.if-n-v.true))
-
-pub loop-i-preserved : goal.loop-i-preserved
-loop-i-preserved c =
-    let a = c.args in
-    (omega arith, omega arith, omega (arith, c.loop-i.invariant.2, front-on (under a.n) a.v.values c.loop-i.i a.v.count 0 (omega arith) (omega arith) (lt-ltb _ _ c.if-n-v.false)))
 
 pub returns : goal.returns
 unfolding seat_of
 returns c =
-    let a = c.args in
-    omega (arith, c.loop-i.invariant.2, front-none (under a.n) a.v.values c.loop-i.i a.v.count c.loop-i-test.false)
+    count_from_yields_List c.take_while.result _ c.count.ensures.ran
+    (YieldsList-from_take_while _ (under c.args.n) (YieldsList-from_slice (in_use c.args.v) (cc)) c.take_while.ensures.closure c.take_while.ensures.done (λ x b q k. search (rules, tests)))
+    ∙ length-prefix_len (under c.args.n) (in_use c.args.v)
+    ∙ front_prefix _ _ (λ x. refl) _
