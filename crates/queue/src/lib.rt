@@ -19,6 +19,7 @@ pub struct Queued {
     pub kind: u8,
 }
 
+// Kept an array with a count: a session that was tampered with, even a count above 256, has to be a value of this type, to be refused by 3; and no heap.
 #[repr(C)]
 #[derive(Clone, Copy)]
 pub struct Queue {
@@ -53,18 +54,14 @@ fn sound_queued(q: Queue, remote: u64, p: Policy) -> bool
     requires { (q.count ≤ 256) × (p.bytes ≤ 32768) }
     ensures { result ≡ sound_queued p remote q }
 {
-    let count = q.count;
     let mut last = remote;
     let mut sum = 0;
-    let mut i = 0;
-    while i < count {
-        let u = q.records[i];
+    for &u in &q.records[..q.count] {
         if !admits_queued(u, last, sum, p) {
             return false;
         }
         last = u.number;
         sum += u.len as usize;
-        i += 1;
     }
     true
 }
@@ -98,16 +95,7 @@ pub fn find(q: Queue, number: u64) -> bool
     requires { q.count ≤ 256 }
     ensures { (o : Bytes) → result ≡ any (is_frame number) (frames_of q o) }
 {
-    let count = q.count;
-    let mut i = 0;
-    while i < count {
-        let u = q.records[i];
-        if u.number == number {
-            return true;
-        }
-        i += 1;
-    }
-    false
+    q.records[..q.count].iter().any(|u| u.number == number)
 }
 
 // How many frames at the front have a number up to this one.
@@ -115,16 +103,10 @@ pub fn up_to(q: Queue, number: u64) -> usize
     requires { q.count ≤ 256 }
     ensures { Leads number q result }
 {
-    let count = q.count;
-    let mut i = 0;
-    while i < count {
-        let u = q.records[i];
-        if number < u.number {
-            return i;
-        }
-        i += 1;
-    }
-    i
+    q.records[..q.count]
+        .iter()
+        .take_while(|u| u.number <= number)
+        .count()
 }
 
 // Where the body of frame k starts.
@@ -132,14 +114,7 @@ pub fn start(q: Queue, k: usize) -> usize
     requires { (k ≤ q.count) × (q.count ≤ 256) × (end_q q ≤ 32768) }
     ensures { result ≡ total len_q (take k (used_q q)) }
 {
-    let mut sum = 0;
-    let mut i = 0;
-    while i < k {
-        let u = q.records[i];
-        sum += u.len as usize;
-        i += 1;
-    }
-    sum
+    q.records[..k].iter().map(|u| u.len as usize).sum()
 }
 
 // Where the bodies end.
@@ -147,26 +122,10 @@ pub fn used(q: Queue) -> usize
     requires { (q.count ≤ 256) × (end_q q ≤ 32768) }
     ensures { result ≡ end_q q }
 {
-    let count = q.count;
-    start(q, count)
+    start(q, q.count)
 }
 
 // ---- put in
-
-// The records from index at up to index count, one index higher.
-fn shift_up(records: [Queued; 256], at: usize, count: usize) -> [Queued; 256]
-    requires { (at ≤ count) × (count < 256) }
-    ensures { result ≡ placed records (at + 1) (take (count - at) (drop at records)) }
-{
-    let mut r = records;
-    let mut j = count - at;
-    while 0 < j {
-        j -= 1;
-        let u = r[at + j];
-        r[at + 1 + j] = u;
-    }
-    r
-}
 
 // A frame goes in at index at; the later ones, and their bytes, move up.
 pub fn insert_at(q: Queue, store: &mut [u8], at: usize, number: u64, kind: u8, body: &[u8]) -> Queue
@@ -178,18 +137,16 @@ pub fn insert_at(q: Queue, store: &mut [u8], at: usize, number: u64, kind: u8, b
     let end = used(q);
     stores::move_up(store, from + n, from, end - from);
     stores::copy_in(store, from, body);
-    let count = q.count;
-    let records = q.records;
-    let mut up = shift_up(records, at, count);
-    let u = Queued {
-        number: number,
+    let mut records = q.records;
+    stores::move_up(&mut records, at + 1, at, q.count - at);
+    records[at] = Queued {
+        number,
         len: n as u32,
-        kind: kind,
+        kind,
     };
-    up[at] = u;
     Queue {
-        records: up,
-        count: count + 1,
+        records,
+        count: q.count + 1,
     }
 }
 
@@ -204,21 +161,6 @@ pub fn insert(q: Queue, store: &mut [u8], number: u64, kind: u8, body: &[u8]) ->
 
 // ---- taken out
 
-// The n records from index i on, at the front.
-fn lower(records: [Queued; 256], i: usize, n: usize) -> [Queued; 256]
-    requires { i + n ≤ 256 }
-    ensures { result ≡ placed records 0 (take n (drop i records)) }
-{
-    let mut r = records;
-    let mut j = 0;
-    while j < n {
-        let u = r[i + j];
-        r[j] = u;
-        j += 1;
-    }
-    r
-}
-
 // The first k frames go; the others, and their bytes, move to the front, and what they leave is cleared.
 pub fn drop_front(q: Queue, store: &mut [u8], k: usize) -> Queue
     requires { (k ≤ q.count) × ExactQueue q (length store.old) }
@@ -230,10 +172,10 @@ pub fn drop_front(q: Queue, store: &mut [u8], k: usize) -> Queue
     stores::move_down(store, 0, from, n);
     stores::clear(store, n, end);
     let left = q.count - k;
-    let records = q.records;
-    let down = lower(records, k, left);
+    let mut records = q.records;
+    stores::move_down(&mut records, 0, k, left);
     Queue {
-        records: down,
+        records,
         count: left,
     }
 }
@@ -243,6 +185,5 @@ pub fn clear(q: Queue, store: &mut [u8]) -> Queue
     requires { ExactQueue q (length store.old) }
     ensures { Repacked q store.old [] result store.new }
 {
-    let count = q.count;
-    drop_front(q, store, count)
+    drop_front(q, store, q.count)
 }

@@ -14,4 +14,4 @@ move_down-requires c = let within : c.start-from.result ≤ c.used-end.result = 
 pub returns : goal.returns
 returns c =
     dropped c.args.q c.args.store.now c.args.k c.requires.0 c.requires.1 c.start-from.result c.used-end.result (c.used-end.result - c.start-from.result) c.start-from.ensures c.used-end.ensures refl
-    c.move_down.new.store c.clear.new.store c.lower-down.result (replicate (c.used-end.result - (c.used-end.result - c.start-from.result)) 0) c.move_down.ensures refl c.clear.ensures c.lower-down.ensures
+    c.move_down.new.store c.clear.new.store c.move_down-2.new.store (replicate (c.used-end.result - (c.used-end.result - c.start-from.result)) 0) c.move_down.ensures refl c.clear.ensures c.move_down-2.ensures

@@ -19,4 +19,4 @@ copy_in-requires c = let within : c.start-from.result ≤ c.used-end.result = om
 pub returns : goal.returns
 returns c =
     inserted c.args.q c.args.store.now c.args.at (arrived c.args.number c.args.kind c.args.body.now) c.requires c.start-from.result c.used-end.result c.start-from.ensures c.used-end.ensures
-    c.move_up.new.store c.copy_in.new.store c.shift_up-up.result c.move_up.ensures c.copy_in.ensures c.shift_up-up.ensures
+    c.move_up.new.store c.copy_in.new.store c.move_up-2.new.store c.move_up.ensures c.copy_in.ensures c.move_up-2.ensures

@@ -1,19 +1,26 @@
+use Prim.Native.Nat.{◌<◌, ◌^◌}
 use native.Mathlib.Omega.{arith}
-use mathlib.Core.Path.{◌≡◌}
-use lib.ListN.{length}
-use Rattle.stores.proofs.Packs.{total-step, total-none}
-use Rattle.queue.specs.View.{len_q, blank_q}
+use mathlib.Core.Path.{sym, ◌∙◌}
+use lib.ListN.{take}
+use Rattle.std.specs.List.{sum_by}
+use Rattle.std.proofs.Common.{rules, tests}
+use Rattle.std.proofs.lemmas.Iterator.{YieldsList-from_slice, YieldsList-from_map}
+use Rattle.std.proofs.lemmas.Iterator.Consumers.{sum_by_from_yields_List, fits_by_from_yields_list}
+use Rattle.stores.proofs.Words.{total-sum}
+use Rattle.queue.specs.View.{len_q}
 use Rattle.queue.proofs.Changes.{start-within, start_plain}
 use Rattle.queue.proofs.start.Goals as goal
 
-pub loop-i-init : goal.loop-i-init
-loop-i-init c = let full : length c.args.q.records ≡ 256 = omega arith in omega (arith, full, start-within c.args.q c.args.k, start_plain c.args.q c.args.k c.requires.0)
-
-pub overflow_add-sum : goal.overflow_add-sum
-overflow_add-sum c = omega (arith, total-step len_q c.args.q.records c.loop-i.i c.args.k blank_q (omega arith) (omega arith))
-
-pub loop-i-preserved : goal.loop-i-preserved
-loop-i-preserved c = omega (arith, total-step len_q c.args.q.records c.loop-i.i c.args.k blank_q (omega arith) (omega arith))
+pub sum-requires-clause-fits : goal.sum-requires-clause-fits
+sum-requires-clause-fits c =
+    let fits : sum_by len_q (take c.args.k c.args.q.records) < 2 ^ 64 =
+    omega (arith, c.requires.2, total-sum len_q (take c.args.k c.args.q.records), start-within c.args.q c.args.k, start_plain c.args.q c.args.k c.requires.0) in
+    fits_by_from_yields_list len_q (take c.args.k c.args.q.records) c.map.result _
+    (YieldsList-from_map _ len_q (YieldsList-from_slice (take c.args.k c.args.q.records) (cc)) c.map.ensures.closure (λ x r q k. search (rules, tests))) fits
 
 pub returns : goal.returns
-returns c = omega (arith, total-none len_q c.args.q.records c.loop-i.i c.args.k (omega arith), start_plain c.args.q c.args.k c.requires.0)
+returns c =
+    sum_by_from_yields_List len_q (take c.args.k c.args.q.records) c.map.result _ c.sum.ensures.ran
+    (YieldsList-from_map _ len_q (YieldsList-from_slice (take c.args.k c.args.q.records) (cc)) c.map.ensures.closure (λ x r q k. search (rules, tests)))
+    ∙ total-sum len_q (take c.args.k c.args.q.records)
+    ∙ sym (start_plain c.args.q c.args.k c.requires.0)
