@@ -5,7 +5,8 @@ use mathlib.Core.Bool.{Bool, true, false}
 use mathlib.Core.List.{List, [], ◌∷◌, ◌++◌, append_assoc, append-nil}
 use Prim.Native.Nat.{ℕ, ◌+◌, ◌-◌, ◌≤◌, ◌<◌}
 use native.Mathlib.Omega.{arith}
-use native.Mathlib.Nat.{zero-add}
+use native.Mathlib.Nat.{add-zero, zero-add}
+use mir.Val.{bool_byte}
 use lib.ListN.{length, take, drop, get_or, set, replicate, length-take, length-drop, length-replicate, length-set, take-append-drop}
 use lib.Seq.{slice, drop-drop, length-take-le, take_at, take-set-le}
 use Rattle.stores.specs.Packed.{cut}
@@ -194,6 +195,11 @@ module _ (ack : ℕ) (w : Sweep) (n : ℕ) (s : Bytes) (g : Sweeping w n (length
   swept false {s'} {e} {k} is es ee ek = subst (λ (x : ℕ). Swept ack n w s (record { records = written; kept = x; next = w.next + 1; to = e; from = w.from + one.len }) s') (sym ek)
       (subst (λ (x : ℕ). Swept ack n w s (record { records = written; kept = w.kept; next = w.next + 1; to = x; from = w.from + one.len }) s') (sym ee)
       (subst (λ (x : Bytes). Swept ack n w s (record { records = written; kept = w.kept; next = w.next + 1; to = w.to; from = w.from + one.len }) x) (sym es) (passed is)))
+
+-- how many records stay, with one more that stays or not
+pub counted : (b : Bool) (n : ℕ) {m : ℕ} → m ≡ bool_byte b → n + m ≡ (if b then n + 1 else n)
+counted true n e = ap (λ (k : ℕ). n + k) e
+counted false n e = ap (λ (k : ℕ). n + k) e ∙ add-zero n
 
 -- a body that is moved down, by whether its record stays
 module _ (b : Bool) (to from n : ℕ) (s : Bytes) where

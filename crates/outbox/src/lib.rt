@@ -1,7 +1,7 @@
 // The unacked messages: records by rising number in an array, their bodies packed in the outbound store that the caller lends.
 #![tactic(auto)]
 
-ghost use Rattle.std.specs.Prelude.{◌≡◌, Bool, true, false, ◌∷◌, [], ◌+◌, ◌*◌, ◌≤◌, ◌<◌, length, take, drop, if◌then◌else◌};
+ghost use Rattle.std.specs.Prelude.{◌≡◌, Bool, true, false, ◌∷◌, [], ◌+◌, ◌*◌, ◌≤◌, ◌<◌, length, take, drop};
 ghost use Rattle.stores.specs.Placed.{placed};
 ghost use Rattle.rules.specs.Lists.{kept};
 ghost use Rattle.rules.specs.Acks.{survives, sent};
@@ -22,7 +22,8 @@ pub struct Unacked {
     pub unsent: bool,
 }
 
-// The number that the next message gets (`message_number`), and the records in use.
+// The number that the next message gets (`message_number`), and the records in use. Kept an array with a count: a session that was tampered with, even a
+// count above 256, has to be a value of this type, to be refused by 3; and no heap.
 #[repr(C)]
 #[derive(Clone, Copy)]
 pub struct Outbox {
@@ -31,7 +32,7 @@ pub struct Outbox {
     pub count: usize,
 }
 
-// The outbox with the count of events listed so far.
+// The outbox with the count of events listed so far. Kept beside numbers's, whose one field differs: a generic one would read no plainer.
 #[derive(Clone, Copy)]
 pub struct Released {
     pub outbox: Outbox,
@@ -66,19 +67,14 @@ pub fn sound_unacked(o: Outbox) -> bool
     requires { o.count ≤ 256 }
     ensures { result ≡ sound_unacked o }
 {
-    let next = o.next;
-    let count = o.count;
     let mut last = 0;
     let mut sum = 0;
-    let mut i = 0;
-    while i < count {
-        let u = o.records[i];
-        if !admits_unacked(u, last, sum, next) {
+    for &u in &o.records[..o.count] {
+        if !admits_unacked(u, last, sum, o.next) {
             return false;
         }
         last = u.number as u64;
         sum += u.len as usize;
-        i += 1;
     }
     true
 }
@@ -105,15 +101,7 @@ pub fn used(o: Outbox) -> usize
     requires { (o.count ≤ 256) × (end_u o ≤ 65536) }
     ensures { result ≡ end_u o }
 {
-    let count = o.count;
-    let mut sum = 0;
-    let mut i = 0;
-    while i < count {
-        let u = o.records[i];
-        sum += u.len as usize;
-        i += 1;
-    }
-    sum
+    o.records[..o.count].iter().map(|u| u.len as usize).sum()
 }
 
 // A message with the next number, at the end: its body from index at on, where the bodies end.
@@ -173,38 +161,23 @@ fn lower_if(stays: bool, store: &mut [u8], to: usize, from: usize, n: usize) -> 
     to
 }
 
-fn count_if(stays: bool, n: usize) -> usize
-    requires { n ≤ 256 }
-    ensures { result ≡ (if stays then n + 1 else n) }
-{
-    if stays {
-        return n + 1;
-    }
-    n
-}
-
 // The Rust's `acknowledge`: messages up to ack go, except those pending or unsent. One pass; the freed tail is cleared once.
 pub fn acknowledge(o: Outbox, store: &mut [u8], ack: u64) -> Outbox
     requires { ExactOutbox o (length store.old) }
     ensures { Left o store.old (kept (survives ack) (unacked_of o store.old)) result store.new }
 {
-    let count = o.count;
     let mut r = o;
     let mut k = 0;
     let mut to = 0;
     let mut from = 0;
-    let mut i = 0;
-    while i < count {
+    for i in 0..o.count {
         let u = r.records[i];
         let n = u.len as usize;
         let stays = keeps(u, ack);
-        let end = lower_if(stays, store, to, from, n);
-        let more = count_if(stays, k);
+        to = lower_if(stays, store, to, from, n);
         r.records[k] = u;
-        k = more;
-        to = end;
+        k += usize::from(stays);
         from += n;
-        i += 1;
     }
     stores::clear(store, to, from);
     r.count = k;
@@ -266,26 +239,17 @@ pub fn release(o: Outbox, upto: u64, list: &mut [u64], n: usize) -> Released
     requires { (sound_outbox_of o ≡ true) × (4 * (n + o.count) ≤ length list.old) }
     ensures { Releases upto o list.old n result list.new }
 {
-    let count = o.count;
-    let mut r = o;
-    let mut k = n;
+    let mut outbox = o;
+    let mut events = n;
     let mut at = 0;
-    let mut i = 0;
-    while i < count {
-        let u = r.records[i];
-        let size = u.len as usize;
+    for i in 0..o.count {
+        let u = outbox.records[i];
         let goes = releases(u, upto);
-        let m = send_if(goes, u, list, k, at);
-        let v = release_one(goes, u);
-        r.records[i] = v;
-        k = m;
-        at += size;
-        i += 1;
+        events = send_if(goes, u, list, events, at);
+        outbox.records[i] = release_one(goes, u);
+        at += u.len as usize;
     }
-    Released {
-        outbox: r,
-        events: k,
-    }
+    Released { outbox, events }
 }
 
 // The Rust's `connectivity` on the messages: those not pending are sent anew.
@@ -293,18 +257,13 @@ pub fn replay(o: Outbox, list: &mut [u64], n: usize) -> usize
     requires { (sound_outbox_of o ≡ true) × (4 * (n + o.count) ≤ length list.old) }
     ensures { Replays o list.old n list.new result }
 {
-    let count = o.count;
-    let mut k = n;
+    let mut events = n;
     let mut at = 0;
-    let mut i = 0;
-    while i < count {
-        let u = o.records[i];
-        let m = send_if(!u.pending, u, list, k, at);
-        k = m;
+    for &u in &o.records[..o.count] {
+        events = send_if(!u.pending, u, list, events, at);
         at += u.len as usize;
-        i += 1;
     }
-    k
+    events
 }
 
 // ---- a report, and a fetch
@@ -326,14 +285,9 @@ pub fn mark_sent(o: Outbox, number: u64) -> Outbox
     requires { o.count ≤ 256 }
     ensures { Flagged (sent number) o result }
 {
-    let count = o.count;
     let mut r = o;
-    let mut i = 0;
-    while i < count {
-        let u = r.records[i];
-        let v = sent_one(u, number);
-        r.records[i] = v;
-        i += 1;
+    for i in 0..o.count {
+        r.records[i] = sent_one(r.records[i], number);
     }
     r
 }

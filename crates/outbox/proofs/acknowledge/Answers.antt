@@ -6,30 +6,27 @@ use Rattle.rules.specs.Lists.{kept}
 use Rattle.rules.specs.Acks.{survives}
 use Rattle.outbox.specs.View.{blank_u, unacked_of}
 use Rattle.outbox.specs.Steps.{Left}
-use Rattle.outbox.proofs.Sweeps.{reach, swept, turned, starts, finished}
+use Rattle.outbox.proofs.Sweeps.{reach, swept, counted, turned, starts, finished}
 use borrow.Author.Rules.{rules}
 use Rattle.outbox.proofs.acknowledge.Goals as goal
 
 pub loop-i-init : goal.loop-i-init
-loop-i-init c = (refl, refl, starts c.args.ack c.args.o c.args.store.now c.requires)
+loop-i-init c = (refl, starts c.args.ack c.args.o c.args.store.now c.requires)
 
-pub lower_if-end-requires : goal.lower_if-end-requires
-lower_if-end-requires c = let reaches : let l = c.loop-i in l.from + (get_or l.r.records l.i blank_u).len ≤ length l.store = let l = c.loop-i in reach c.args.ack (record { records = l.r.records; kept = l.k; next = l.i; to = l.to; from = l.from }) c.args.o.count l.store l.invariant.2.sweeping c.loop-i-test.true in (c.loop-i.invariant.2.sweeping.down, reaches)
-
-pub count_if-more-requires : goal.count_if-more-requires
-count_if-more-requires c = omega (arith, c.loop-i.invariant.2.sweeping.order, c.loop-i.invariant.2.sweeping.within, c.loop-i.invariant.2.sweeping.few)
+pub lower_if-to-requires : goal.lower_if-to-requires
+lower_if-to-requires c = let reaches : let l = c.loop-i in l.from + (get_or l.r.records l.i blank_u).len ≤ length l.store = let l = c.loop-i in reach c.args.ack (record { records = l.r.records; kept = l.k; next = l.i; to = l.to; from = l.from }) c.args.o.count l.store l.invariant.1.sweeping c.loop-i-test.true in (c.loop-i.invariant.1.sweeping.down, reaches)
 
 pub overflow_add-from : goal.overflow_add-from
-overflow_add-from c = let reaches : let l = c.loop-i in l.from + (get_or l.r.records l.i blank_u).len ≤ length l.store = let l = c.loop-i in reach c.args.ack (record { records = l.r.records; kept = l.k; next = l.i; to = l.to; from = l.from }) c.args.o.count l.store l.invariant.2.sweeping c.loop-i-test.true in omega (arith, reaches)
+overflow_add-from c = let reaches : let l = c.loop-i in l.from + (get_or l.r.records l.i blank_u).len ≤ length l.store = let l = c.loop-i in reach c.args.ack (record { records = l.r.records; kept = l.k; next = l.i; to = l.to; from = l.from }) c.args.o.count l.store l.invariant.1.sweeping c.loop-i-test.true in omega (arith, reaches)
 
 pub loop-i-preserved : goal.loop-i-preserved
-loop-i-preserved c = (c.loop-i.invariant.0, c.loop-i.invariant.1, turned c.loop-i.invariant.2 (swept c.args.ack (record { records = c.loop-i.r.records; kept = c.loop-i.k; next = c.loop-i.i; to = c.loop-i.to; from = c.loop-i.from }) c.args.o.count c.loop-i.store c.loop-i.invariant.2.sweeping c.loop-i-test.true c.keeps-stays.result (sym c.keeps-stays.ensures) c.lower_if-end.ensures.store c.lower_if-end.ensures.end c.count_if-more.ensures) c.lower_if-end.auto.store)
+loop-i-preserved c = (c.loop-i.invariant.0, turned c.loop-i.invariant.1 (swept c.args.ack (record { records = c.loop-i.r.records; kept = c.loop-i.k; next = c.loop-i.i; to = c.loop-i.to; from = c.loop-i.from }) c.args.o.count c.loop-i.store c.loop-i.invariant.1.sweeping c.loop-i-test.true c.keeps-stays.result (sym c.keeps-stays.ensures) c.lower_if-to.ensures.store c.lower_if-to.ensures.end (counted _ _ c.from-k.ensures)) c.lower_if-to.auto.store)
 
 pub clear-requires : goal.clear-requires
-clear-requires c = omega (arith, c.loop-i.invariant.2.sweeping.down, c.loop-i.invariant.2.sweeping.room)
+clear-requires c = omega (arith, c.loop-i.invariant.1.sweeping.down, c.loop-i.invariant.1.sweeping.room)
 
 pub shape_of-store : goal.shape_of-store
-shape_of-store c = c.clear.auto.store ∙ c.loop-i.invariant.2.size
+shape_of-store c = c.clear.auto.store ∙ c.loop-i.invariant.1.size
 
 pub returns : goal.returns
-returns c = subst (λ (x : ℕ). Left c.args.o c.args.store.now (kept (survives c.args.ack) (unacked_of c.args.o c.args.store.now)) (record { next = x; records = c.loop-i.r.records; count = c.loop-i.k }) c.clear.new.store) (sym c.loop-i.invariant.1) (finished c.args.ack c.args.o c.args.store.now c.requires (record { records = c.loop-i.r.records; kept = c.loop-i.k; next = c.loop-i.i; to = c.loop-i.to; from = c.loop-i.from }) c.loop-i.store c.loop-i.invariant.2 (search rules) c.clear.new.store c.clear.ensures)
+returns c = subst (λ (x : ℕ). Left c.args.o c.args.store.now (kept (survives c.args.ack) (unacked_of c.args.o c.args.store.now)) (record { next = x; records = c.loop-i.r.records; count = c.loop-i.k }) c.clear.new.store) (sym c.loop-i.invariant.0) (finished c.args.ack c.args.o c.args.store.now c.requires (record { records = c.loop-i.r.records; kept = c.loop-i.k; next = c.loop-i.i; to = c.loop-i.to; from = c.loop-i.from }) c.loop-i.store c.loop-i.invariant.1 (search rules) c.clear.new.store c.clear.ensures)

@@ -16,28 +16,27 @@ pub loop-i-init : goal.loop-i-init
 loop-i-init c =
     let s : SoundU c.args.o = sound_facts c.args.o c.requires.0 in
     let full : length c.args.o.records ≡ 256 = omega arith in
-    (refl, flagging_none (release-flags c.args.upto) c.args.o full s.few, listing_none (R.releases c.args.upto) c.args.o c.args.list.now c.args.n s full c.requires.1)
+    (flagging_none (release-flags c.args.upto) c.args.o full s.few, listing_none (R.releases c.args.upto) c.args.o c.args.list.now c.args.n s full c.requires.1)
 
-pub send_if-m-requires : goal.send_if-m-requires
-send_if-m-requires c = listing-room c.loop-i.invariant.2 c.loop-i-test.true
+pub send_if-events-requires : goal.send_if-events-requires
+send_if-events-requires c = listing-room c.loop-i.invariant.1 c.loop-i-test.true
 
 pub overflow_add-at : goal.overflow_add-at
-overflow_add-at c = let fits : let l = c.loop-i in l.at + (get_or l.r.records l.i blank_u).len ≤ 65536 = let l = c.loop-i in let e : get_or l.r.records l.i blank_u ≡ get_or c.args.o.records l.i blank_u = flagging_at (release-flags c.args.upto) l.invariant.1 c.loop-i-test.true in omega (arith, ap (λ (u : Unacked). u.len) e, listing-fits l.invariant.2 c.loop-i-test.true) in omega (arith, fits)
+overflow_add-at c = let fits : let l = c.loop-i in l.at + (get_or l.outbox.records l.i blank_u).len ≤ 65536 = let l = c.loop-i in let e : get_or l.outbox.records l.i blank_u ≡ get_or c.args.o.records l.i blank_u = flagging_at (release-flags c.args.upto) l.invariant.0 c.loop-i-test.true in omega (arith, ap (λ (u : Unacked). u.len) e, listing-fits l.invariant.1 c.loop-i-test.true) in omega (arith, fits)
 
 pub loop-i-preserved : goal.loop-i-preserved
 loop-i-preserved c =
     let lt = c.loop-i-test.true in
-    let f = c.loop-i.invariant.1 in
-    let u = get_or c.loop-i.r.records c.loop-i.i blank_u in (
-      refl,
-      flagging_more (release-flags c.args.upto) f lt c.release_one-v.result (c.release_one-v.ensures ∙ ap (λ b. released_u b u) c.releases-goes.ensures),
-      listing-next c.loop-i.invariant.2 lt (releases_u c.args.upto) (λ v b. refl) u (flagging_at (release-flags c.args.upto) f lt) c.releases-goes.result
-          c.releases-goes.ensures c.send_if-m.new.list c.send_if-m.result c.send_if-m.auto.list c.send_if-m.ensures,
+    let f = c.loop-i.invariant.0 in
+    let u = get_or c.loop-i.outbox.records c.loop-i.i blank_u in (
+      flagging_more (release-flags c.args.upto) f lt c.release_one.result (c.release_one.ensures ∙ ap (λ b. released_u b u) c.releases-goes.ensures),
+      listing-next c.loop-i.invariant.1 lt (releases_u c.args.upto) (λ v b. refl) u (flagging_at (release-flags c.args.upto) f lt) c.releases-goes.result
+          c.releases-goes.ensures c.send_if-events.new.list c.send_if-events.result c.send_if-events.auto.list c.send_if-events.ensures,
     )
 
 pub shape_of-list : goal.shape_of-list
-shape_of-list c = c.loop-i.invariant.2.same
+shape_of-list c = c.loop-i.invariant.1.same
 
 pub returns : goal.returns
 returns c =
-    released c.args.upto c.loop-i.r c.loop-i.invariant.1 c.loop-i.invariant.2 c.loop-i-test.false
+    released c.args.upto c.loop-i.outbox c.loop-i.invariant.0 c.loop-i.invariant.1 c.loop-i-test.false

@@ -1,37 +1,41 @@
+use Prim.Native.Nat.{◌<◌}
 use native.Mathlib.Omega.{arith}
-use mathlib.Core.Path.{◌≡◌, refl}
-use lib.ListN.{length, get_or}
+use mathlib.Core.Path.{refl}
+use lib.ListN.{get_or, length-take}
+use lib.Seq.{get_or-take}
 use Rattle.rules.specs.Replay.{not_pending}
 use Rattle.outbox.specs.View.{blank_u}
 use Rattle.outbox.specs.Records.{not_pending_u}
-use Rattle.outbox.proofs.View.{SoundU, sound_facts}
+use Rattle.outbox.proofs.View.{sound_facts}
 use Rattle.outbox.proofs.Listings.{listing_none, listing-next, listing-room, listing-fits}
 use Rattle.outbox.proofs.Commits.{replayed}
 use Rattle.outbox.proofs.replay.Goals as goal
 
-pub loop-i-init : goal.loop-i-init
-loop-i-init c =
-    let s : SoundU c.args.o = sound_facts c.args.o c.requires.0 in
-    let full : length c.args.o.records ≡ 256 = omega arith in
-    (refl, listing_none not_pending c.args.o c.args.list.now c.args.n s full c.requires.1)
+pub loop-u-init : goal.loop-u-init
+loop-u-init c = listing_none not_pending c.args.o c.args.list.now c.args.n (sound_facts c.args.o c.requires.0) (omega arith) c.requires.1
 
-pub send_if-m-requires : goal.send_if-m-requires
-send_if-m-requires c = listing-room c.loop-i.invariant.1 c.loop-i-test.true
+pub shared_ref_as_front-u-items : goal.shared_ref_as_front-u-items
+shared_ref_as_front-u-items c = (sound_facts c.args.o c.requires.0).few
+
+pub send_if-events-requires : goal.send_if-events-requires
+send_if-events-requires c = listing-room c.loop-u.invariant (omega (arith, simp length-take at c.loop-u-test.true))
 
 pub overflow_add-at : goal.overflow_add-at
-overflow_add-at c = omega (arith, listing-fits c.loop-i.invariant.1 c.loop-i-test.true)
+overflow_add-at c =
+    let h : c.loop-u.u-index < c.args.o.count = omega (arith, simp length-take at c.loop-u-test.true) in
+    rw (get_or-take c.args.o.count c.args.o.records c.loop-u.u-index blank_u h) (omega (arith, listing-fits c.loop-u.invariant h))
 
-pub loop-i-preserved : goal.loop-i-preserved
-loop-i-preserved c =
-    let lt = c.loop-i-test.true in
-    let u = get_or c.args.o.records c.loop-i.i blank_u in (
-      refl,
-      listing-next c.loop-i.invariant.1 lt not_pending_u (λ v b. refl) u refl (not_pending_u u) refl c.send_if-m.new.list c.send_if-m.result c.send_if-m.auto.list
-          c.send_if-m.ensures,
-    )
+pub loop-u-preserved : goal.loop-u-preserved
+loop-u-preserved c =
+    let h : c.loop-u.u-index < c.args.o.count = omega (arith, simp length-take at c.loop-u-test.true) in
+    let u = get_or c.args.o.records c.loop-u.u-index blank_u in
+    let e = rw (get_or-take c.args.o.count c.args.o.records c.loop-u.u-index blank_u h) at c.send_if-events.ensures in
+    rw (get_or-take c.args.o.count c.args.o.records c.loop-u.u-index blank_u h)
+    (listing-next c.loop-u.invariant h not_pending_u (λ v b. refl) u refl (not_pending_u u) refl c.send_if-events.new.list c.send_if-events.result
+    c.send_if-events.auto.list e)
 
 pub shape_of-list : goal.shape_of-list
-shape_of-list c = c.loop-i.invariant.1.same
+shape_of-list c = c.loop-u.invariant.same
 
 pub returns : goal.returns
-returns c = replayed c.loop-i.invariant.1 c.loop-i-test.false
+returns c = replayed c.loop-u.invariant (omega (arith, simp length-take at c.loop-u-test.false))
