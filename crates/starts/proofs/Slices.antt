@@ -1,4 +1,4 @@
--- What the loops over the record's slices keep: lengths counted down and summed, numbers that rise, records filled. Assumes nothing.
+-- What the loops over the record's slices keep: lengths counted down, numbers that rise, records filled. Assumes nothing.
 use mathlib.Core.Path.{◌≡◌, refl, sym, ap, ◌∙◌}
 use mathlib.Core.Bool.{Bool, true, false, ◌&&◌}
 use mathlib.Core.List.{List, [], ◌∷◌}
@@ -44,33 +44,6 @@ module _ {ks : List ℕ} {n limit left i : ℕ} (c : Counted ks n limit left i) 
       let s : total itself (slice i n ks) ≡ 0 = total-none itself ks i n h in
       let within : total itself (take n ks) ≤ limit = omega (arith, c.ends) in
       le-leb _ _ within
-
--- ---- lengths summed
-
-pub record Summed (ks : List ℕ) (n sum i : ℕ) : Type 0 where
-  pub enough : n ≤ length ks
-  pub small : total itself (take n ks) ≤ 65536
-  pub within : i ≤ n
-  pub ends : sum + total itself (slice i n ks) ≡ total itself (take n ks)
-
-pub summed_none : (ks : List ℕ) (n : ℕ) → n ≤ length ks → total itself (take n ks) ≤ 65536 → Summed ks n 0 0
-summed_none ks n h k = record { enough = h; small = k; within = omega arith; ends = omega arith }
-
-module _ {ks : List ℕ} {n sum i : ℕ} (c : Summed ks n sum i) where
-  pub summed_room : i < n → sum + get_or ks i 0 ≤ 65536
-  summed_room h =
-      let s : total itself (slice i n ks) ≡ get_or ks i 0 + total itself (slice (i + 1) n ks) = total-step itself ks i n 0 h c.enough in
-      omega (arith, c.ends, c.small)
-
-  pub summed_more : i < n → Summed ks n (sum + get_or ks i 0) (i + 1)
-  summed_more h =
-      let s : total itself (slice i n ks) ≡ get_or ks i 0 + total itself (slice (i + 1) n ks) = total-step itself ks i n 0 h c.enough in
-      record { enough = c.enough; small = c.small; within = omega arith; ends = omega (arith, c.ends) }
-
-  pub summed_all : n ≤ i → sum ≡ total itself (take n ks)
-  summed_all h =
-      let s : total itself (slice i n ks) ≡ 0 = total-none itself ks i n h in
-      omega (arith, c.ends)
 
 -- ---- numbers that rise, below the next
 
@@ -156,15 +129,15 @@ module _ {ns ks : List ℕ} {rs : List Unacked} {i : ℕ} (f : Filling ns ks rs 
       run_more f.run blank_u v h (record_at ns ks i f.fitting.enough h) in
       record { fitting = f.fitting; run = rw z at r }
 
-  pub filling_all : (next : ℕ) → length ns ≤ i → Recorded next ns ks (record { next = next; records = rs; count = i })
+  pub filling_all : (next : ℕ) → length ns ≤ i → Recorded next ns ks (record { next = next; records = rs; count = length ns })
   filling_all next h =
       let full : length (replicate 256 blank_u) ≡ 256 = length-replicate 256 blank_u in
       let size : length (records_of ns ks) ≡ length ns = f.run.size in
       let room : 0 + length (records_of ns ks) ≤ length (replicate 256 blank_u) = omega (arith, f.fitting.few) in
-      let e : i ≡ 0 + length (records_of ns ks) = omega (arith, f.run.within) in
+      let e : length ns ≡ 0 + length (records_of ns ks) = omega arith in
       record {
         next_is = refl;
-        count_is = omega (arith, f.run.within);
+        count_is = refl;
         used =
             ap (λ (k : ℕ). take k rs) e ∙ ap (λ (l : List Unacked). take (0 + length (records_of ns ks)) l) (run-all f.run h)
             ∙ take-placed-end (replicate 256 blank_u) 0 (records_of ns ks) room;

@@ -38,15 +38,12 @@ fn fits(lengths: &[u64], count: usize, limit: usize) -> bool
     requires { count ≤ length lengths.now }
     ensures { result ≡ leb (total itself (take count lengths.now)) limit }
 {
-    let mut left: u64 = limit as u64;
-    let mut i = 0;
-    while i < count {
-        let k = lengths[i];
+    let mut left = limit as u64;
+    for &k in &lengths[..count] {
         if left < k {
             return false;
         }
         left -= k;
-        i += 1;
     }
     true
 }
@@ -66,18 +63,12 @@ pub fn short_record(numbers: &[u64], lengths: &[u64], bodies: &[u8]) -> bool
 fn rise_below(numbers: &[u64], next: u64) -> bool
     ensures { result ≡ (rising itself 0 numbers.now && all (under next) numbers.now) }
 {
-    let mut last: u64 = 0;
-    let mut i = 0;
-    while i < numbers.len() {
-        let n = numbers[i];
-        if n <= last {
-            return false;
-        }
-        if next <= n {
+    let mut last = 0;
+    for &n in numbers {
+        if n <= last || next <= n {
             return false;
         }
         last = n;
-        i += 1;
     }
     true
 }
@@ -127,22 +118,17 @@ pub fn records(numbers: &[u64], lengths: &[u64], next: u64) -> Outbox
         unsent: false,
     };
     let mut records = [blank; 256];
-    let mut i = 0;
-    while i < numbers.len() {
-        let n = numbers[i];
-        let k = lengths[i];
+    for (i, &n) in numbers.iter().enumerate() {
         records[i] = Unacked {
             number: n as u32,
-            len: k as u32,
-            pending: false,
-            unsent: false,
+            len: lengths[i] as u32,
+            ..blank
         };
-        i += 1;
     }
     Outbox {
-        next: next,
-        records: records,
-        count: i,
+        next,
+        records,
+        count: numbers.len(),
     }
 }
 
@@ -151,12 +137,7 @@ pub fn body_bytes(lengths: &[u64], count: usize) -> usize
     requires { (count ≤ length lengths.now) × (total itself (take count lengths.now) ≤ 65536) }
     ensures { result ≡ total itself (take count lengths.now) }
 {
-    let mut sum: u64 = 0;
-    let mut i = 0;
-    while i < count {
-        sum += lengths[i];
-        i += 1;
-    }
+    let sum: u64 = lengths[..count].iter().sum();
     sum as usize
 }
 
@@ -200,7 +181,7 @@ fn reject_body(reject: &[u8]) -> RejectBody
     let mut bytes = [0u8; 64];
     stores::copy_in(&mut bytes, 0, reject);
     RejectBody {
-        bytes: bytes,
+        bytes,
         len: reject.len(),
     }
 }
@@ -257,9 +238,8 @@ fn begun(
 fn refused(x: Refusal) -> Returned
     ensures { NotStarted x result }
 {
-    let session = SessionState::none();
     Returned {
-        session: session,
+        session: SessionState::none(),
         answer: Answer::Refused(x),
         events: 0,
     }
@@ -294,7 +274,7 @@ pub fn start(
     let end = queue.len();
     stores::clear(queue, 0, end);
     Returned {
-        session: session,
+        session,
         answer: Answer::Done,
         events: 0,
     }
@@ -313,10 +293,10 @@ pub fn policy(gap: u64, messages: usize, bytes: usize, body: usize) -> Policy
     ensures { result ≡ policy_of gap messages bytes body }
 {
     Policy {
-        gap: gap,
-        messages: messages,
-        bytes: bytes,
-        body: body,
+        gap,
+        messages,
+        bytes,
+        body,
     }
 }
 

@@ -5,9 +5,6 @@ use Rattle.starts.proofs.records.Goals as goal
 pub loop-i-init : goal.loop-i-init
 loop-i-init c = filling_none _ _ c.requires
 
-pub overflow_cast-records : goal.overflow_cast-records
-overflow_cast-records c = omega (arith, c.loop-i.invariant.fitting.low c.loop-i.i c.loop-i-test.true)
-
 pub overflow_cast-records-in-loop-i : goal.overflow_cast-records-in-loop-i
 overflow_cast-records-in-loop-i c = omega (arith, length-small _ _ c.loop-i.i c.loop-i.invariant.fitting c.loop-i-test.true)
 
