@@ -1,16 +1,17 @@
 -- What is asked of numbers from an index of the words on, and of a list that rises. Assumes nothing.
 use Prim.Native.Nat.{ℕ, zero, suc, ◌+◌, ◌-◌, ◌≤◌, ◌<◌}
 use mathlib.Core.Path.{◌≡◌, refl, sym, ap, ◌∙◌, subst}
-use mathlib.Core.Bool.{Bool, true, false, ◌&&◌}
+use mathlib.Core.Bool.{Bool, true, false, ◌&&◌, ◌||◌}
+use Rattle.std.specs.List.{list_any}
 use mathlib.Core.List.{List, [], ◌∷◌}
 use native.Mathlib.Omega.{arith}
-use lib.ListN.{length, get_or}
-use lib.Seq.{slice, get_or-take, length-take-le}
-use lib.Dec.{leb, ltb}
-use borrow.Author.Tests.{le-leb, lt-ltb, le-ltb, ltb-true, leb-true}
+use lib.ListN.{length, get_or, take, drop}
+use lib.Seq.{slice, get_or-take, length-take-le, take-take}
+use lib.Dec.{eqb, leb, ltb}
+use borrow.Author.Tests.{eq-eqb, ne_eqb, eqb-true, eqb-false, le-leb, lt-ltb, le-ltb, ltb-true, leb-true}
 use Rattle.stores.specs.Fronts.{front}
-use Rattle.stores.proofs.Scans.{any_here, any-later, rises-on, rises_not}
-use Rattle.rules.specs.Lists.{any, all, rising, itself, put, kept}
+use Rattle.stores.proofs.Scans.{rises-on, rises_not}
+use Rattle.rules.specs.Lists.{any, has, all, rising, itself, put, kept}
 use Rattle.rules.specs.Sound.{at_most, ascending}
 use Rattle.rules.proofs.Lists.{if_rule, and_left, and_right, and_both, rising-put, rising-kept}
 use Rattle.numbers.specs.Seats.{under, seat_of}
@@ -37,11 +38,25 @@ module _ (from : ℕ) (w : List ℕ) (i n : ℕ) (few : n ≤ 512) (room : from 
   pub rises-stop : (last : ℕ) → at w (from + i) ≤ last → rising itself last (slice i n s) ≡ false
   rises-stop last = subst (λ (x : ℕ). x ≤ last → rising itself last (slice i n s) ≡ false) here (rises_not itself s i n 0 h m last)
 
-  pub any_in : (p : ℕ → Bool) → p (at w (from + i)) ≡ true → any p (slice i n s) ≡ true
-  any_in p = subst (λ (x : ℕ). p x ≡ true → any p (slice i n s) ≡ true) here (any_here p s i n 0 h m)
+-- ---- whether a number is there
 
-  pub any-past : (p : ℕ → Bool) → p (at w (from + i)) ≡ false → any p (slice i n s) ≡ any p (slice (i + 1) n s)
-  any-past p = subst (λ (x : ℕ). p x ≡ false → any p (slice i n s) ≡ any p (slice (i + 1) n s)) here (any-later p s i n 0 h m)
+eqb_sym : (a b : ℕ) → eqb a b ≡ eqb b a
+eqb_sym a b = go (eqb a b) refl
+  where
+    go : (t : Bool) → eqb a b ≡ t → eqb a b ≡ eqb b a
+    go true e = e ∙ sym (eq-eqb b a (sym (eqb-true a b e)))
+    go false e = e ∙ sym (ne_eqb b a (λ h. eqb-false a b e (sym h)))
+
+any_is : (n : ℕ) (l : List ℕ) → list_any (λ y. eqb y n) l ≡ any (eqb n) l
+unfolding any
+any_is n [] = refl
+any_is n (x ∷ xs) = ap (λ (t : Bool). t || list_any (λ y. eqb y n) xs) (eqb_sym x n) ∙ ap (λ (t : Bool). eqb n x || t) (any_is n xs)
+
+pub has_in : (from n : ℕ) (w : List ℕ) (x : ℕ) → n ≤ 512 → list_any (λ y. eqb y x) (take (from + n - from) (drop from w)) ≡ has x (firsts from n w)
+unfolding has
+has_in from n w x few =
+    let e : from + n - from ≡ n = omega arith in
+    ap (λ (k : ℕ). list_any (λ y. eqb y x) (take k (drop from w))) e ∙ any_is x (take n (drop from w)) ∙ ap (any (eqb x)) (sym (take-take n 512 (drop from w) few))
 
 -- ---- ascending
 

@@ -5,12 +5,17 @@ use mathlib.Core.Path.{◌≡◌, sym, ap, ◌∙◌, subst}
 use mathlib.Core.Bool.{Bool, true}
 use mathlib.Core.List.{List, [], ◌∷◌, ◌++◌, map}
 use native.Mathlib.Omega.{arith}
-use lib.ListN.{length, take, drop, set}
+use lib.ListN.{length, take, drop, set, length-take, length-drop}
 use lib.Seq.{get_or-set_same}
+use Rattle.std.specs.List.{CopiedTo, SameBelow, SameFrom}
+use Rattle.std.proofs.Common.{ext_get_or}
+use Rattle.std.proofs.lemmas.List.{get_or_append_left, get_or-append_right, get_or-take, get_or-drop, length-take-le}
+use borrow.Author.Tests.{ltb-true, ltb-false}
+use Rattle.rules.proofs.Lists.{if_rule}
+use Rattle.stores.proofs.Laws.{length-placed}
 use lib.Dec.{ltb}
 use Rattle.stores.specs.Placed.{placed}
 use Rattle.events.specs.Written.{Listed}
-use Rattle.stores.proofs.Runs.{Down, raise_none, raise_more, down-all}
 use Rattle.stores.proofs.Sifts.{Sifted, sifted_none, sifted_more}
 use Rattle.rules.specs.Lists.{kept, put, itself}
 use Rattle.rules.specs.Commits.{releases_ack}
@@ -23,7 +28,7 @@ use Rattle.numbers.proofs.Passes.{sifted_holds, Releasing, releasing_none, relea
 use Rattle.parts.specs.Parts.{at, section, numbers_in}
 use Rattle.parts.specs.Frames.{Only}
 use Rattle.link_numbers.specs.Sets.{Set, Lies, Rising, Becomes, Releases}
-use Rattle.link_numbers.proofs.Sets.{section-room, section-at, section-set, section-before, only_none, only-number, only-count}
+use Rattle.link_numbers.proofs.Sets.{section-room, section-length, section-at, section-set, section-before, only_none, only-number, only-count}
 
 -- words where only a set changes. `few` and `room` are there for `omega`
 pub record Changing (from count : ℕ) (w₀ w : List ℕ) : Type 0 where
@@ -53,53 +58,85 @@ module _ {from count : ℕ} {w₀ w : List ℕ} (c : Changing from count w₀ w)
         only = only-count c.only n c.set.outside;
       }
 
--- ---- a place made for a number at index i of the set, from the end on
+-- ---- a place made for a number at index i of the set
 
-pub record Raising (from count i size : ℕ) (w₀ w : List ℕ) (j : ℕ) : Type 0 where
-  pub changing : Changing from count w₀ w
-  pub within : j ≤ size - i
-  pub free : size < 512
-  pub here : i ≤ size
-  pub down : Down (section from 512 w₀) (i + 1) (take (size - i) (drop i (section from 512 w₀))) (size - i) (section from 512 w) j
+-- n elements from index i on, copied one place up
+module _ (s s' : List ℕ) (i n : ℕ) (size : length s' ≡ length s) (room : i + 1 + n ≤ length s) where
+  lb : length (take n (drop i s)) ≡ n
+  lb = simp (length-take, length-drop) (omega arith)
 
-pub raising_none : {from count i size : ℕ} {w : List ℕ} → Set from count w → i ≤ size → size < 512 → Raising from count i size w w (size - i)
-raising_none {from} {count} {i} {size} {w} s h f =
-    record {
-      changing = changing_none s;
-      within = omega arith;
-      free = f;
-      here = h;
-      down = raise_none (section from 512 w) (i + 1) i (size - i) (omega arith) (omega (arith, s.exact.full));
-    }
+  abbrev rest : List ℕ
+  rest = take n (drop i s) ++ drop (i + 1 + n) s
 
-module _ {from count i size : ℕ} {w₀ w : List ℕ} {j : ℕ} (r : Raising from count i size w₀ w j) where
-  pub raising_more : 0 < j → Raising from count i size w₀ (set w (from + (i + 1 + (j - 1))) (at w (from + (i + (j - 1))))) (j - 1)
-  raising_more h =
-      let x : ℕ = at w (from + (i + (j - 1))) in
-      let k : i + 1 + (j - 1) < 512 = omega (arith, r.within, r.free, r.here) in
-      let ex : at (section from 512 w) (i + (j - 1)) ≡ x = section-at from w (i + (j - 1)) (omega arith) in
-      let es : set (section from 512 w) (i + 1 + (j - 1)) (at (section from 512 w) (i + (j - 1))) ≡ section from 512 (set w (from + (i + 1 + (j - 1))) x) =
-      ap (λ (y : ℕ). set (section from 512 w) (i + 1 + (j - 1)) y) ex ∙ sym (section-set from w (i + 1 + (j - 1)) x k) in
+  head : length (take (i + 1) s) ≡ i + 1
+  head = length-take-le (i + 1) s (omega arith)
+
+  spread : placed s (i + 1) (take n (drop i s)) ≡ take (i + 1) s ++ rest
+  unfolding placed
+  spread = rw lb
+
+  copied : ((j : ℕ) → j < i + 1 → at s' j ≡ at s j) → ((j : ℕ) → i + 1 ≤ j → j < i + 1 + n → at s' j ≡ at s (i + (j - (i + 1))))
+      → ((j : ℕ) → i + 1 + n ≤ j → j < length s' → at s' j ≡ at s j) → s' ≡ placed s (i + 1) (take n (drop i s))
+  copied low mid high =
+      ext_get_or 0 s' (take (i + 1) s ++ rest) (size ∙ sym (ap length (sym spread) ∙ length-placed s (i + 1) (take n (drop i s)) (omega (arith, lb))))
+      (λ j l. if_rule (λ (_ : ℕ). at s' j ≡ at (take (i + 1) s ++ rest) j) (ltb j (i + 1)) 0 0 (λ h. below j (ltb-true _ _ h))
+      (λ h. if_rule (λ (_ : ℕ). at s' j ≡ at (take (i + 1) s ++ rest) j) (ltb j (i + 1 + n)) 0 0 (λ k. within j (ltb-false _ _ h) (ltb-true _ _ k)) (λ k. beyond j (ltb-false _ _ h) (ltb-false _ _ k) l)))
+      ∙ sym spread
+    where
+      below : (j : ℕ) → j < i + 1 → at s' j ≡ at (take (i + 1) s ++ rest) j
+      below j h = low j h ∙ sym (get_or_append_left (take (i + 1) s) rest 0 j (omega (arith, head)) ∙ get_or-take (i + 1) s j 0 h)
+
+      within : (j : ℕ) → i + 1 ≤ j → j < i + 1 + n → at s' j ≡ at (take (i + 1) s ++ rest) j
+      within j h k =
+          mid j h k
+          ∙ sym
+          (get_or-append_right (take (i + 1) s) rest (i + 1) j 0 head h
+          ∙ get_or_append_left (take n (drop i s)) (drop (i + 1 + n) s) 0 (j - (i + 1)) (omega (arith, lb))
+          ∙ get_or-take n (drop i s) (j - (i + 1)) 0 (omega arith)
+          ∙ get_or-drop i s (j - (i + 1)) 0)
+
+      beyond : (j : ℕ) → i + 1 ≤ j → i + 1 + n ≤ j → j < length s' → at s' j ≡ at (take (i + 1) s ++ rest) j
+      beyond j h k l =
+          high j k l
+          ∙ ap (at s) (omega arith)
+          ∙ sym
+          (get_or-append_right (take (i + 1) s) rest (i + 1) j 0 head h
+          ∙ get_or-append_right (take n (drop i s)) (drop (i + 1 + n) s) n (j - (i + 1)) 0 lb (omega arith)
+          ∙ get_or-drop (i + 1 + n) s (j - (i + 1) - n) 0)
+
+module _ (from count : ℕ) (w w' : List ℕ) (s : Set from count w) (i : ℕ) (within : i ≤ at w count) (free : at w count < 512) (size : length w' ≡ length w)
+    (c : CopiedTo w w' (from + i) (from + i + 1) (from + at w count - (from + i)) × SameBelow w w' (from + i + 1)
+    × SameFrom w w' (from + i + 1 + (from + at w count - (from + i)))) where
+  room : from + 512 ≤ length w
+  room = section-room from w s.exact.full
+
+  changed : Changing from count w w'
+  changed =
       record {
-        changing = changing_number r.changing (i + 1 + (j - 1)) x k;
-        within = omega (arith, r.within);
-        free = r.free;
-        here = r.here;
-        down =
-            subst (λ (l : List ℕ). Down (section from 512 w₀) (i + 1) (take (size - i) (drop i (section from 512 w₀))) (size - i) l (j - 1)) es
-            (raise_more (section from 512 w₀) (i + 1) i (size - i) (section from 512 w) j 0 r.down (omega arith) h);
+        set = s;
+        few = s.exact.few;
+        room = omega (arith, room);
+        only = record { size = size; below = λ j h _. c.1 j 0 (omega arith); above = λ j h. c.2 j 0 (omega arith) };
       }
 
-pub raised : {from count i : ℕ} {w₀ w : List ℕ} {j : ℕ} → Raising from count i (at w₀ count) w₀ w j → (n : ℕ) → j ≡ 0
-    → Becomes (take i (in_use (numbers_in from count w₀)) ++ (n ∷ drop i (in_use (numbers_in from count w₀)))) from count w₀
-    (set (set w (from + i) n) count (at w₀ count + 1))
-raised {from} {count} {i} {w₀} {w} {j} r n z =
-    let v : Numbers = numbers_in from count w₀ in
-    let ns : List ℕ = take i (in_use v) ++ (n ∷ drop i (in_use v)) in
-    let ii : i < 512 = omega (arith, r.here, r.free) in
-    becomes (changing_number r.changing i n ii) ns (at w₀ count + 1)
-    (subst (λ (l : List ℕ). Holds ns (record { values = l; count = at w₀ count + 1 })) (sym (section-set from w i n ii))
-    (put-at-is v n i r.free r.changing.set.exact.full r.here (section from 512 w) (down-all r.down z)))
+  same : (j : ℕ) → j < 512 → (k : ℕ) → k < 512 → at w' (from + j) ≡ at w (from + k) → at (section from 512 w') j ≡ at (section from 512 w) k
+  same j h k l e = section-at from w' j h ∙ e ∙ sym (section-at from w k l)
+
+  made : section from 512 w' ≡ placed (section from 512 w) (i + 1) (take (at w count - i) (drop i (section from 512 w)))
+  made =
+      copied (section from 512 w) (section from 512 w') i (at w count - i) (section-length from w' (omega (arith, room)) ∙ sym s.exact.full) (omega (arith, s.exact.full))
+      (λ j h. same j (omega arith) j (omega arith) (c.1 (from + j) 0 (omega arith)))
+      (λ j h l. same j (omega arith) (i + (j - (i + 1))) (omega arith) (c.0 (from + j) 0 (omega arith) (omega arith) ∙ ap (at w) (omega arith)))
+      (λ j h l.
+      let few : j < 512 = omega (arith, section-length from w' (omega (arith, room))) in
+      same j few j few (c.2 (from + j) 0 (omega arith)))
+
+  pub put_in : (n : ℕ) → Becomes (take i (in_use (numbers_in from count w)) ++ (n ∷ drop i (in_use (numbers_in from count w)))) from count w (set (set w' (from + i) n) count (at w count + 1))
+  put_in n =
+      becomes (changing_number changed i n (omega arith)) (take i (in_use (numbers_in from count w)) ++ (n ∷ drop i (in_use (numbers_in from count w)))) (at w count + 1)
+      (subst (λ (l : List ℕ). Holds (take i (in_use (numbers_in from count w)) ++ (n ∷ drop i (in_use (numbers_in from count w)))) (record { values = l; count = at w count + 1 }))
+      (sym (section-set from w' i n (omega arith)))
+      (put-at-is (numbers_in from count w) n i free s.exact.full within (section from 512 w') made))
 
 -- ---- one pass over the set, in which some numbers go
 

@@ -23,14 +23,12 @@ pub fn rises(words: &Words, from: usize, count: usize, first: usize, last: u64) 
     ensures { result ≡ rising itself last (slice first count (section from 512 words.now)) }
 {
     let mut top = last;
-    let mut i = first;
-    while i < count {
+    for i in first..count {
         let x = words[from + i];
         if x <= top {
             return false;
         }
         top = x;
-        i += 1;
     }
     true
 }
@@ -63,14 +61,7 @@ pub fn has(words: &Words, from: usize, count: usize, n: u64) -> bool
     requires { Lies from count words.now }
     ensures { result ≡ has n (firsts from count words.now) }
 {
-    let mut i = 0;
-    while i < count {
-        if words[from + i] == n {
-            return true;
-        }
-        i += 1;
-    }
-    false
+    words[from..from + count].contains(&n)
 }
 
 // ---- put
@@ -80,14 +71,12 @@ fn seat(words: &Words, from: usize, count: usize, n: u64) -> usize
     requires { Lies from count words.now × (ascending (firsts from count words.now) ≡ true) }
     ensures { result ≡ seat_of n (firsts from count words.now) }
 {
-    let mut j = count;
-    while 0 < j {
-        if words[from + (j - 1)] < n {
-            return j;
+    for j in (0..count).rev() {
+        if words[from + j] < n {
+            return j + 1;
         }
-        j -= 1;
     }
-    j
+    0
 }
 
 // With the number n at index i, and those from there on one index higher.
@@ -96,12 +85,7 @@ fn put_at(words: &mut Words, from: usize, at: usize, i: usize, n: u64)
     ensures { Becomes (take i (in_use (numbers_in from at words.old)) ++ (n ∷ drop i (in_use (numbers_in from at words.old)))) from at words.old words.new }
 {
     let count = words[at] as usize;
-    let mut j = count - i;
-    while 0 < j {
-        j -= 1;
-        let u = words[from + (i + j)];
-        words[from + (i + 1 + j)] = u;
-    }
+    words.copy_within(from + i..from + count, from + i + 1);
     words[from + i] = n;
     words[at] = count as u64 + 1;
 }
@@ -125,16 +109,6 @@ pub fn put(words: &mut Words, from: usize, at: usize, n: u64)
 
 // ---- dropped, and listed
 
-// 1 for a number that is not n.
-fn other(n: u64, x: u64) -> usize
-    ensures { result ≡ step (differs_from n x) }
-{
-    if n == x {
-        return 0;
-    }
-    1
-}
-
 // Without the number n.
 pub fn take_out(words: &mut Words, from: usize, at: usize, n: u64)
     requires { Set from at words.old }
@@ -142,24 +116,12 @@ pub fn take_out(words: &mut Words, from: usize, at: usize, n: u64)
 {
     let count = words[at] as usize;
     let mut k = 0;
-    let mut i = 0;
-    while i < count {
+    for i in 0..count {
         let x = words[from + i];
         words[from + k] = x;
-        k += other(n, x);
-        i += 1;
+        k += usize::from(n != x);
     }
     words[at] = k as u64;
-}
-
-// 1 for a number that a commit up to upto leaves.
-fn later(upto: u64, x: u64) -> usize
-    ensures { result ≡ step (ltb upto x) }
-{
-    if upto < x {
-        return 1;
-    }
-    0
 }
 
 // Lists a number that a commit up to upto releases.
@@ -189,13 +151,11 @@ pub fn release(
     let count = words[at] as usize;
     let mut events = n;
     let mut k = 0;
-    let mut i = 0;
-    while i < count {
+    for i in 0..count {
         let x = words[from + i];
         words[from + k] = x;
-        k += later(upto, x);
+        k += usize::from(upto < x);
         events = list_one(upto, x, list, events);
-        i += 1;
     }
     words[at] = k as u64;
     events
@@ -208,11 +168,9 @@ pub fn list_all(words: &Words, from: usize, at: usize, list: &mut [u64], n: usiz
     ensures count { result ≡ n + (numbers_in from at words.now).count }
 {
     let count = words[at] as usize;
-    let mut i = 0;
-    while i < count {
+    for i in 0..count {
         let x = words[from + i];
         events::emit(list, n + i, 9, x, 0, 0);
-        i += 1;
     }
     n + count
 }

@@ -5,7 +5,6 @@ use mathlib.Core.List.{List, map}
 use Prim.Native.Nat.{ℕ, ◌+◌, ◌*◌, ◌≤◌, ◌<◌}
 use native.Mathlib.Omega.{arith}
 use lib.ListN.{length, get_or}
-use borrow.Author.Tests.{eq-eqb, ne_eqb}
 use Rattle.rules.specs.Lists.{Bytes}
 use Rattle.rules.specs.State as R
 use Rattle.rules.specs.Commits as C
@@ -24,11 +23,9 @@ use Rattle.parts.proofs.Seats.{length-seats, get_d_seats}
 use Rattle.link_outbox.specs.Steps.{Frees, freed, Sends}
 use Rattle.link_outbox.proofs.Records.{by_eq, past_same, twice_low, twice_high, twice_other, past-set, unacked-same, flagged-seats}
 
-pub flag_clear : (x : ℕ) → x ≡ 0 → flag x ≡ false
-flag_clear x e = ap not (eq-eqb x 0 e)
-
-pub flag-set : (x : ℕ) → (x ≡ 0 → ⊥) → flag x ≡ true
-flag-set x e = ap not (ne_eqb x 0 e)
+pub not_not : (t : Bool) → not (not t) ≡ t
+not_not true = refl
+not_not false = refl
 
 -- ---- a turn of a release
 

@@ -8,8 +8,6 @@ use native.Mathlib.Omega.{arith}
 use native.Mathlib.Nat.{zero-add}
 use lib.ListN.{length, take, drop, set, replicate, length-append, length-take, length-drop, take-append-drop}
 use lib.Seq.{slice, get_or-drop, set-get_or, take-take}
-use lib.Dec.{leb}
-use borrow.Author.Tests.{le-leb, lt-leb, leb-false}
 use Rattle.stores.specs.Packed.{cut}
 use Rattle.stores.specs.Placed.{placed}
 use Rattle.stores.proofs.Laws.{length-placed, take-placed-end, drop_placed_ge, placed-none}
@@ -26,7 +24,7 @@ use Rattle.outbox.proofs.Sweeps.{placed_same}
 use Rattle.parts.specs.Seats.{seats}
 use Rattle.parts.specs.Parts.{at, unacked_at, outbox_in}
 use Rattle.parts.proofs.Seats.{length-seats, seats_of, take-seats}
-use Rattle.link_outbox.specs.Tests.{low, stayer, Bounded}
+use Rattle.link_outbox.specs.Tests.{stayer, Bounded}
 use Rattle.link_moves.specs.Moves.{Lowered}
 use Rattle.link_outbox.specs.Steps.{Drops, Shifted, Front}
 use Rattle.link_outbox.proofs.Sounds.{used-at, used-length, total-same, take-total}
@@ -37,9 +35,9 @@ use Rattle.link_outbox.proofs.Sweeps.{Sweeps, dropped}
 pub shifted : (k n : ℕ) (l m l' : List ℕ) → k + n ≤ 256 → Lowered 0 k n l m → Lowered 256 (256 + k) n m l' → Shifted k n l l'
 shifted k n l m l' few p q =
     record {
-      front = λ i h. q.below i (omega arith) ∙ ap (at m) (sym (zero-add i)) ∙ p.moved i h;
-      back = λ i h. q.moved i h ∙ p.above (256 + k + i) (omega arith) ∙ ap (at l) (regroup i);
-      past = record { size = q.size ∙ p.size; same = λ i h. q.above i (omega arith) ∙ p.above i (omega arith) };
+      front = λ i h. q.below i 0 (omega arith) ∙ ap (at m) (sym (zero-add i)) ∙ p.moved i 0 h;
+      back = λ i h. q.moved i 0 h ∙ p.above (256 + k + i) 0 (omega arith) ∙ ap (at l) (regroup i);
+      past = record { size = q.size ∙ p.size; same = λ i h. q.above i 0 (omega arith) ∙ p.above i 0 (omega arith) };
     }
   where
     regroup : (i : ℕ) → 256 + k + i ≡ 256 + (k + i)
@@ -86,41 +84,6 @@ module _ {A : Type 0} (p : A → Bool) where
       s ∙ ap (λ (x : List A). x ++ kept p (drop k l)) (none (kept p (take k l)) z) ∙ kept_full (drop k l) f
 
 -- ---- as records count it
-
-pub low_small : (n : ℕ) → n ≤ 4294967295 → n ≡ low n
-low_small n h = sym (ap (λ (t : Bool). if t then n else 4294967295) (le-leb n 4294967295 h))
-
-pub low_large : (n : ℕ) → 4294967295 < n → 4294967295 ≡ low n
-low_large n h = sym (ap (λ (t : Bool). if t then n else 4294967295) (lt-leb n 4294967295 h))
-
-low-is : (ack : ℕ) → low ack < 4294967295 → low ack ≡ ack
-low-is ack h = go (leb ack 4294967295) h
-  where
-    go : (t : Bool) → (if t then ack else 4294967295) < 4294967295 → (if t then ack else 4294967295) ≡ ack
-    go true e = refl
-    go false e = absurd (omega arith)
-
-low_le : (ack : ℕ) → low ack ≤ ack
-low_le ack = go (leb ack 4294967295) (leb-false ack 4294967295)
-  where
-    go : (t : Bool) → (t ≡ false → 4294967295 < ack) → (if t then ack else 4294967295) ≤ ack
-    go true f = omega arith
-    go false f = omega (arith, f refl)
-
--- 32 bits hold a record's number
-pub low_below : (ack limit n : ℕ) → n ≤ 4294967295 → limit ≡ low ack → limit < n → ack < n
-low_below ack limit n h e l =
-    let z : low ack ≡ ack = low-is ack (omega arith) in
-    omega arith
-
-pub low_upto : (ack limit n : ℕ) → limit ≡ low ack → n ≤ limit → n ≤ ack
-low_upto ack limit n e l = omega (arith, low_le ack)
-
-pub stay_in : (t : Bool) → t ≡ true → ◌≡◌ {A = ℕ} 1 (if t then 1 else 0)
-stay_in t e = sym (ap (λ (x : Bool). if x then 1 else 0) e)
-
-pub stay_out : (t : Bool) → t ≡ false → ◌≡◌ {A = ℕ} 0 (if t then 1 else 0)
-stay_out t e = sym (ap (λ (x : Bool). if x then 1 else 0) e)
 
 pub stayer-one : (ack : ℕ) (u : Unacked) → stayer ack u ≤ 1
 stayer-one ack u = go (survives_u ack u)

@@ -1,4 +1,5 @@
 -- When the tests of `sound` pass. Assumes nothing.
+use Rattle.std.specs.Int.{from_bool}
 use Rattle.std.specs.Prelude.{if◌then◌else◌}
 use mathlib.Core.Path.{◌≡◌, refl, sym, ap, ◌∙◌}
 use mathlib.Core.Bool.{Bool, true, false}
@@ -9,8 +10,8 @@ use native.Mathlib.Nat.{eq-or-lt_of_le}
 use mathlib.Core.Logic.{⊎_elim}
 use lib.ListN.{length, take, get_or}
 use lib.Seq.{slice, get_or-take, length-take-le}
-use lib.Dec.{eqb, ltb}
-use borrow.Author.Tests.{lt-ltb, le-ltb, ltb-true, eq-eqb, ne_eqb, eqb-true}
+use lib.Dec.{eqb, ltb, leb}
+use borrow.Author.Tests.{eqb-true, le-leb, lt-leb, lt-ltb, ltb-false, ltb-true}
 use Rattle.rules.specs.Lists.{all, total, rising}
 use Rattle.rules.proofs.Lists.{and_left, and_right, and_both}
 use Rattle.stores.proofs.Packs.{slice-none}
@@ -30,15 +31,12 @@ use Rattle.link_outbox.specs.Tests.{fall, falls, Steps, Bounded}
 pub fall-none : (a b : ℕ) → a < b → 0 ≡ fall a b
 fall-none a b h = sym (ap (λ (t : Bool). if t then 0 else 1) (lt-ltb a b h))
 
-pub fall-one : (a b : ℕ) → b ≤ a → 1 ≡ fall a b
-fall-one a b h = sym (ap (λ (t : Bool). if t then 0 else 1) (le-ltb a b h))
-
-pub fall-few : (a b : ℕ) → fall a b ≤ 1
-fall-few a b = go (ltb a b)
+pub fall_is : (a b : ℕ) → from_bool (leb b a) ≡ fall a b
+fall_is a b = go (ltb a b) refl
   where
-    go : (t : Bool) → (if t then 0 else 1) ≤ 1
-    go true = omega arith
-    go false = omega arith
+    go : (t : Bool) → ltb a b ≡ t → from_bool (leb b a) ≡ fall a b
+    go true e = ap from_bool (lt-leb b a (ltb-true a b e)) ∙ fall-none a b (ltb-true a b e)
+    go false e = ap from_bool (le-leb b a (ltb-false a b e)) ∙ sym (ap (λ (t : Bool). if t then 0 else 1) e)
 
 pub falls-none : (last : ℕ) (us : List Unacked) → rising num_u last us ≡ true → falls last us ≡ 0
 unfolding rising falls
@@ -121,12 +119,6 @@ falls_more h b i n sum r t few k e s =
     omega (arith, falls-step (unacked_at h b) i n (at h (i - 1)) k few)
 
 -- ---- numbers that follow one another
-
-pub same-one : (a b : ℕ) → a ≡ b → ◌≡◌ {A = ℕ} 1 (if eqb a b then 1 else 0)
-same-one a b h = sym (ap (λ (t : Bool). if t then 1 else 0) (eq-eqb a b h))
-
-pub same_none : (a b : ℕ) → (a ≡ b → ⊥) → ◌≡◌ {A = ℕ} 0 (if eqb a b then 1 else 0)
-same_none a b h = sym (ap (λ (t : Bool). if t then 1 else 0) (ne_eqb a b h))
 
 pub same-few : (a b : ℕ) → (if eqb a b then 1 else 0) ≤ 1
 same-few a b = go (eqb a b)

@@ -1,7 +1,8 @@
 -- A sweep over records that lie in halves and bytes: a turn, and its end. Assumes nothing.
 use Rattle.std.specs.Prelude.{if◌then◌else◌}
-use mathlib.Core.Path.{◌≡◌, sym, ap, ◌∙◌, subst}
-use mathlib.Core.Bool.{Bool}
+use Rattle.std.specs.Int.{from_bool}
+use mathlib.Core.Path.{◌≡◌, refl, sym, ap, ◌∙◌, subst}
+use mathlib.Core.Bool.{Bool, true, false}
 use mathlib.Core.List.{List}
 use Prim.Native.Nat.{ℕ, ◌+◌, ◌-◌, ◌≤◌, ◌<◌}
 use native.Mathlib.Omega.{arith}
@@ -27,6 +28,10 @@ use Rattle.link_outbox.proofs.Records.{past_same, past-set, written}
 -- the sweep over the records of h and b
 abbrev pub sweep_in : List ℕ → List ℕ → ℕ → ℕ → ℕ → ℕ → Sweep
 sweep_in h b k i to from = record { records = seats 256 (unacked_at h b); kept = k; next = i; to = to; from = from }
+
+pub counted : (k : ℕ) (t : Bool) → k + from_bool t ≡ (if t then k + 1 else k)
+counted k true = refl
+counted k false = omega arith
 
 -- what the loop keeps
 pub record Sweeps (ack n : ℕ) (h₀ b₀ : List ℕ) (s₀ : Bytes) (h b : List ℕ) (s : Bytes) (k i to from : ℕ) : Type 0 where

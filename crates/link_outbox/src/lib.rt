@@ -16,18 +16,9 @@ ghost use Rattle.link_outbox.specs.Steps.{Joins, Marks, Frees, Drops, Shifted, F
 ghost use Rattle.link_outbox.specs.Tests.{fall, falls, Steps, low, stayer, Bounded, Sought};
 
 use outbox::Place;
-use parts::{Bytes, Halves, Words, full_bytes, full_halves, full_words, size, wide};
+use parts::{Bytes, Halves, Words, size, wide};
 
 // ---- whether they are such as calls leave
-
-fn fall_of(a: u32, b: u32) -> u32
-    ensures { result ≡ fall a b }
-{
-    if a < b {
-        return 0;
-    }
-    1
-}
 
 // How many numbers after the first are not above the one before them.
 fn falls_of(halves: &Halves, count: usize) -> u32
@@ -35,21 +26,10 @@ fn falls_of(halves: &Halves, count: usize) -> u32
     ensures { (b : List ℕ) → result ≡ falls (at halves.now 0) (slice 1 count (seats 256 (unacked_at halves.now b))) }
 {
     let mut sum: u32 = 0;
-    let mut i = 1;
-    while i < count {
-        sum += fall_of(halves[i - 1], halves[i]);
-        i += 1;
+    for i in 1..count {
+        sum += u32::from(halves[i] <= halves[i - 1]);
     }
     sum
-}
-
-fn same_of(a: u32, b: u32) -> u32
-    ensures { result ≡ (if eqb a b then 1 else 0) }
-{
-    if a == b {
-        return 1;
-    }
-    0
 }
 
 // How many numbers are as far from the first as they stand behind it.
@@ -58,10 +38,8 @@ fn steps_of(halves: &Halves, first: u32, count: usize) -> u32
     ensures { result ≡ count → Steps halves.now first count }
 {
     let mut sum: u32 = 0;
-    let mut i = 0;
-    while i < count {
-        sum += same_of(halves[i], first + i as u32);
-        i += 1;
+    for i in 0..count {
+        sum += u32::from(halves[i] == first + i as u32);
     }
     sum
 }
@@ -72,19 +50,13 @@ fn falls_in(halves: &Halves, count: usize) -> u32
     ensures { (b : List ℕ) → result ≡ falls (at halves.now 0) (slice 1 count (seats 256 (unacked_at halves.now b))) }
 {
     let first = halves[0];
-    if 4294967296 - (count as u64) < wide(first) {
+    if 4294967296 - (count as u64) < u64::from(first) {
         return falls_of(halves, count);
     }
-    if size(steps_of(halves, first, count)) == count {
+    if steps_of(halves, first, count) as usize == count {
         return 0;
     }
     falls_of(halves, count)
-}
-
-fn len_of(len: u32) -> u64
-    ensures { (result ≡ len) × (result ≤ 4294967295) }
-{
-    len as u64
 }
 
 // The sum of the lengths, whatever they are.
@@ -93,10 +65,8 @@ fn lens_of(halves: &Halves, count: usize) -> u64
     ensures { (b : List ℕ) → result ≡ total len_u (take count (seats 256 (unacked_at halves.now b))) }
 {
     let mut sum: u64 = 0;
-    let mut i = 0;
-    while i < count {
-        sum += len_of(halves[parts::UNACKED_LENS + i]);
-        i += 1;
+    for i in 0..count {
+        sum += u64::from(halves[parts::UNACKED_LENS + i]);
     }
     sum
 }
@@ -122,7 +92,7 @@ pub fn sound(words: &Words, halves: &Halves) -> bool
     if halves[0] < 1 {
         return false;
     }
-    if next <= wide(halves[count - 1]) {
+    if next <= u64::from(halves[count - 1]) {
         return false;
     }
     if 0 < falls_in(halves, count) {
@@ -141,10 +111,8 @@ pub fn used(halves: &Halves, count: usize) -> usize
     ensures { (b : List ℕ) → result ≡ total len_u (seats count (unacked_at halves.now b)) }
 {
     let mut sum: u32 = 0;
-    let mut i = 0;
-    while i < count {
+    for i in 0..count {
         sum += halves[parts::UNACKED_LENS + i];
-        i += 1;
     }
     sum as usize
 }
@@ -163,9 +131,6 @@ pub fn append(
     requires { Room (outbox_in words.old halves.old bytes.old) (length store.old) at (length body.now) }
     ensures { Joins words.old halves.old bytes.old store.old body.now words.new halves.new bytes.new store.new }
 {
-    full_words(words);
-    full_halves(halves);
-    full_bytes(bytes);
     stores::copy_in(store, at, body);
     let next = words[parts::NEXT];
     let n = words[parts::UNACKED];
@@ -184,14 +149,12 @@ fn search(halves: &Halves, count: usize, number: u64) -> usize
     requires { count ≤ 256 }
     ensures { Sought halves.now count number result }
 {
-    let mut i = 0;
-    while i < count {
-        if wide(halves[i]) == number {
+    for i in 0..count {
+        if u64::from(halves[i]) == number {
             return i;
         }
-        i += 1;
     }
-    i
+    count
 }
 
 // Where a number is, if all from the first on are there.
@@ -216,8 +179,8 @@ fn seat(halves: &Halves, count: usize, number: u64) -> usize
     if count == 0 {
         return 0;
     }
-    let i = guess(wide(halves[0]), number, count);
-    if wide(halves[i]) == number {
+    let i = guess(u64::from(halves[0]), number, count);
+    if u64::from(halves[i]) == number {
         return i;
     }
     search(halves, count, number)
@@ -230,7 +193,6 @@ pub fn mark_sent(words: &Words, halves: &Halves, bytes: &mut Bytes, number: u64)
 {
     let count = words[parts::UNACKED] as usize;
     let i = seat(halves, count, number);
-    full_bytes(bytes);
     if i < count {
         bytes[parts::UNSENT + i] = 0;
         return;
@@ -267,10 +229,7 @@ fn free_if(goes: bool, bytes: &mut Bytes, i: usize)
 fn releases(number: u32, pending: u8, upto: u64) -> bool
     ensures { result ≡ (flag pending && leb number upto) }
 {
-    if pending == 0 {
-        return false;
-    }
-    number as u64 <= upto
+    pending != 0 && u64::from(number) <= upto
 }
 
 // The Rust's `complete_commit` on the messages: those pending up to upto are sent, and unsent until a send is reported.
@@ -285,30 +244,18 @@ pub fn release(
     requires { (sound_outbox_of (outbox_in words.now halves.now bytes.old) ≡ true) × (4 * (n + at words.now 1) ≤ length list.old) }
     ensures { Frees upto words.now halves.now bytes.old list.old n bytes.new list.new result }
 {
-    full_bytes(bytes);
     let count = words[parts::UNACKED] as usize;
     let mut k = n;
     let mut from = 0;
-    let mut i = 0;
-    while i < count {
+    for i in 0..count {
         let len = halves[parts::UNACKED_LENS + i];
         let goes = releases(halves[i], bytes[i], upto);
         let m = send_if(goes, halves[i], len, list, k, from);
         free_if(goes, bytes, i);
         k = m;
-        from += size(len);
-        i += 1;
+        from += len as usize;
     }
     k
-}
-
-fn is_clear(x: u8) -> bool
-    ensures { result ≡ not (flag x) }
-{
-    if x == 0 {
-        return true;
-    }
-    false
 }
 
 // The Rust's `connectivity` on the messages: those not pending are sent anew.
@@ -319,14 +266,12 @@ pub fn replay(words: &Words, halves: &Halves, bytes: &Bytes, list: &mut [u64], n
     let count = words[parts::UNACKED] as usize;
     let mut k = n;
     let mut from = 0;
-    let mut i = 0;
-    while i < count {
+    for i in 0..count {
         let len = halves[parts::UNACKED_LENS + i];
-        let goes = is_clear(bytes[i]);
+        let goes = bytes[i] == 0;
         let m = send_if(goes, halves[i], len, list, k, from);
         k = m;
-        from += size(len);
-        i += 1;
+        from += len as usize;
     }
     k
 }
@@ -337,13 +282,7 @@ pub fn replay(words: &Words, halves: &Halves, bytes: &Bytes, list: &mut [u64], n
 fn keeps(number: u32, pending: u8, unsent: u8, ack: u64) -> bool
     ensures { result ≡ (ltb ack number || flag pending || flag unsent) }
 {
-    if ack < number as u64 {
-        return true;
-    }
-    if pending != 0 {
-        return true;
-    }
-    unsent != 0
+    ack < u64::from(number) || pending != 0 || unsent != 0
 }
 
 // Where the body of the next record goes, by whether this one stays: if so, its body has moved down. One that is in its place is not touched.
@@ -361,45 +300,30 @@ fn lower_if(stays: bool, store: &mut [u8], to: usize, from: usize, n: usize) -> 
     to + n
 }
 
-fn count_if(stays: bool, n: usize) -> usize
-    requires { n ≤ 256 }
-    ensures { result ≡ (if stays then n + 1 else n) }
-{
-    if stays {
-        return n + 1;
-    }
-    n
-}
-
 // Records go and stay in any order: one pass, and the freed tail is cleared once.
 fn sweep(words: &mut Words, halves: &mut Halves, bytes: &mut Bytes, store: &mut [u8], ack: u64)
     requires { ExactOutbox (outbox_in words.old halves.old bytes.old) (length store.old) }
     ensures { Drops ack words.old halves.old bytes.old store.old words.new halves.new bytes.new store.new }
 {
-    full_words(words);
-    full_halves(halves);
-    full_bytes(bytes);
     let count = words[parts::UNACKED] as usize;
     let mut k = 0;
     let mut to = 0;
     let mut from = 0;
-    let mut i = 0;
-    while i < count {
+    for i in 0..count {
         let number = halves[i];
         let len = halves[parts::UNACKED_LENS + i];
         let pending = bytes[i];
         let unsent = bytes[parts::UNSENT + i];
-        let n = size(len);
+        let n = len as usize;
         let stays = keeps(number, pending, unsent, ack);
         let end = lower_if(stays, store, to, from, n);
         halves[k] = number;
         halves[parts::UNACKED_LENS + k] = len;
         bytes[k] = pending;
         bytes[parts::UNSENT + k] = unsent;
-        k = count_if(stays, k);
+        k += usize::from(stays);
         to = end;
         from += n;
-        i += 1;
     }
     stores::clear(store, to, from);
     words[parts::UNACKED] = k as u64;
@@ -411,25 +335,7 @@ fn sweep(words: &mut Words, halves: &mut Halves, bytes: &mut Bytes, store: &mut 
 fn stay_of(number: u32, pending: u8, unsent: u8, limit: u32) -> u32
     ensures { (ack : ℕ) → limit ≡ low ack → result ≡ (if ltb ack number || flag pending || flag unsent then 1 else 0) }
 {
-    if limit < number {
-        return 1;
-    }
-    if pending != 0 {
-        return 1;
-    }
-    if unsent != 0 {
-        return 1;
-    }
-    0
-}
-
-fn low_of(n: u64) -> u32
-    ensures { result ≡ low n }
-{
-    if n <= 4294967295 {
-        return n as u32;
-    }
-    4294967295
+    u32::from(limit < number || pending != 0 || unsent != 0)
 }
 
 // How many records from index start on an acknowledgement leaves.
@@ -437,12 +343,10 @@ fn staying(halves: &Halves, bytes: &Bytes, start: usize, count: usize, ack: u64)
     requires { (start ≤ count) × (count ≤ 256) }
     ensures { result ≡ total (stayer ack) (slice start count (seats 256 (unacked_at halves.now bytes.now))) }
 {
-    let limit = low_of(ack);
+    let limit = u32::try_from(ack).unwrap_or(u32::MAX);
     let mut sum: u32 = 0;
-    let mut i = start;
-    while i < count {
+    for i in start..count {
         sum += stay_of(halves[i], bytes[i], bytes[parts::UNSENT + i], limit);
-        i += 1;
     }
     sum
 }
@@ -452,10 +356,10 @@ fn lower_records(halves: &mut Halves, bytes: &mut Bytes, k: usize, n: usize)
     requires { k + n ≤ 256 }
     ensures { Shifted k n halves.old halves.new × Shifted k n bytes.old bytes.new }
 {
-    link_moves::lower_halves(halves, 0, k, n);
-    link_moves::lower_halves(halves, parts::UNACKED_LENS, parts::UNACKED_LENS + k, n);
-    link_moves::lower_bytes(bytes, 0, k, n);
-    link_moves::lower_bytes(bytes, parts::UNSENT, parts::UNSENT + k, n);
+    link_moves::lower(halves, 0, k, n);
+    link_moves::lower(halves, parts::UNACKED_LENS, parts::UNACKED_LENS + k, n);
+    link_moves::lower(bytes, 0, k, n);
+    link_moves::lower(bytes, parts::UNSENT, parts::UNSENT + k, n);
 }
 
 // The first k messages go: what is left moves down at once.
@@ -463,9 +367,6 @@ fn shed(words: &mut Words, halves: &mut Halves, bytes: &mut Bytes, store: &mut [
     requires { (k ≤ at words.old 1) × ExactOutbox (outbox_in words.old halves.old bytes.old) (length store.old) }
     ensures { (ack : ℕ) → Front ack k words.old halves.old bytes.old → Drops ack words.old halves.old bytes.old store.old words.new halves.new bytes.new store.new }
 {
-    full_words(words);
-    full_halves(halves);
-    full_bytes(bytes);
     let count = words[parts::UNACKED] as usize;
     let from = used(halves, k);
     let end = used(halves, count);
@@ -488,12 +389,9 @@ pub fn acknowledge(
     requires { ExactOutbox (outbox_in words.old halves.old bytes.old) (length store.old) }
     ensures { Drops ack words.old halves.old bytes.old store.old words.new halves.new bytes.new store.new }
 {
-    full_words(words);
-    full_halves(halves);
-    full_bytes(bytes);
     let count = words[parts::UNACKED] as usize;
     let stay = staying(halves, bytes, 0, count, ack);
-    let gone = count - size(stay);
+    let gone = count - stay as usize;
     if gone == 0 {
         return;
     }

@@ -46,9 +46,9 @@ module _ (w h b : List ℕ) (q : Bytes) (e : ExactQueue (queue_in w h b) (length
     one i l =
         let g : 16 + k + i ≡ 16 + (k + i) = omega arith in
         let f : 512 + k + i ≡ 512 + (k + i) = omega arith in
-        let p1 : at w' (16 + i) ≡ at w (16 + (k + i)) = others (16 + i) (λ z. omega arith) ∙ W.moved i l ∙ ap (at w) g in
-        let p2 : at h' (512 + i) ≡ at h (512 + (k + i)) = H.moved i l ∙ ap (at h) f in
-        let p3 : at b' (512 + i) ≡ at b (512 + (k + i)) = B.moved i l ∙ ap (at b) f in
+        let p1 : at w' (16 + i) ≡ at w (16 + (k + i)) = others (16 + i) (λ z. omega arith) ∙ W.moved i 0 l ∙ ap (at w) g in
+        let p2 : at h' (512 + i) ≡ at h (512 + (k + i)) = H.moved i 0 l ∙ ap (at h) f in
+        let p3 : at b' (512 + i) ≡ at b (512 + (k + i)) = B.moved i 0 l ∙ ap (at b) f in
         rw (p1, p2, p3)
 
     records : used_q (queue_in w' h' b') ≡ map record_q (drop k (frames_of x q))
@@ -64,12 +64,12 @@ module _ (w h b : List ℕ) (q : Bytes) (e : ExactQueue (queue_in w h b) (length
           words = length-set w₁ 4 (at w 4 - k) ∙ W.size;
           halves = H.size;
           bytes = B.size;
-          below = λ i l n. others i n ∙ W.below i l;
-          above = λ i l. others i (λ z. omega arith) ∙ W.above i (omega (arith, e.few));
-          unacked = λ i l. H.below i l;
-          clock = λ i l. H.above i (omega (arith, e.few));
-          flags = λ i l. B.below i l;
-          rest = λ i l. B.above i (omega (arith, e.few));
+          below = λ i l n. others i n ∙ W.below i 0 l;
+          above = λ i l. others i (λ z. omega arith) ∙ W.above i 0 (omega (arith, e.few));
+          unacked = λ i l. H.below i 0 l;
+          clock = λ i l. H.above i 0 (omega (arith, e.few));
+          flags = λ i l. B.below i 0 l;
+          rest = λ i l. B.above i 0 (omega (arith, e.few));
         }
 
     pub dropped_some : (from end : ℕ) → from ≡ bodies h k → end ≡ bodies h (at w 4) → (q₁ q₂ : Bytes) → q₁ ≡ placed q 0 (take (end - from) (drop from q))

@@ -98,9 +98,9 @@ module _ (w h b : List ℕ) (q : Bytes) (k number kind : ℕ) (body : Bytes) (r 
 
     before : (i : ℕ) → i < k → queued_at w' h' b' i ≡ queued_at w h b i
     before i l =
-        let p1 : at w' (16 + i) ≡ at w (16 + i) = in_words i (λ e. omega arith) ∙ W.below (16 + i) (omega arith) in
-        let p2 : at h' (512 + i) ≡ at h (512 + i) = in_halves i (λ e. omega arith) ∙ H.below (512 + i) (omega arith) in
-        let p3 : at b' (512 + i) ≡ at b (512 + i) = in_bytes i (λ e. omega arith) ∙ B.below (512 + i) (omega arith) in
+        let p1 : at w' (16 + i) ≡ at w (16 + i) = in_words i (λ e. omega arith) ∙ W.below (16 + i) 0 (omega arith) in
+        let p2 : at h' (512 + i) ≡ at h (512 + i) = in_halves i (λ e. omega arith) ∙ H.below (512 + i) 0 (omega arith) in
+        let p3 : at b' (512 + i) ≡ at b (512 + i) = in_bytes i (λ e. omega arith) ∙ B.below (512 + i) 0 (omega arith) in
         cc
 
     here : queued_at w' h' b' k ≡ record_q f
@@ -115,9 +115,9 @@ module _ (w h b : List ℕ) (q : Bytes) (k number kind : ℕ) (body : Bytes) (r 
     after i l m =
         let e1 : 16 + suc i ≡ 16 + i + 1 = omega arith in
         let e2 : 512 + suc i ≡ 512 + i + 1 = omega arith in
-        let p1 : at w' (16 + suc i) ≡ at w (16 + i) = in_words (suc i) (λ e. omega arith) ∙ ap (at w₁) e1 ∙ W.moved (16 + i) (omega arith) (omega arith) in
-        let p2 : at h' (512 + suc i) ≡ at h (512 + i) = in_halves (suc i) (λ e. omega arith) ∙ ap (at h₁) e2 ∙ H.moved (512 + i) (omega arith) (omega arith) in
-        let p3 : at b' (512 + suc i) ≡ at b (512 + i) = in_bytes (suc i) (λ e. omega arith) ∙ ap (at b₁) e2 ∙ B.moved (512 + i) (omega arith) (omega arith) in
+        let p1 : at w' (16 + suc i) ≡ at w (16 + i) = in_words (suc i) (λ e. omega arith) ∙ ap (at w₁) e1 ∙ W.moved (16 + i) 0 (omega arith) (omega arith) in
+        let p2 : at h' (512 + suc i) ≡ at h (512 + i) = in_halves (suc i) (λ e. omega arith) ∙ ap (at h₁) e2 ∙ H.moved (512 + i) 0 (omega arith) (omega arith) in
+        let p3 : at b' (512 + suc i) ≡ at b (512 + i) = in_bytes (suc i) (λ e. omega arith) ∙ ap (at b₁) e2 ∙ B.moved (512 + i) 0 (omega arith) (omega arith) in
         cc
 
     abbrev g : ℕ → Queued
@@ -143,12 +143,12 @@ module _ (w h b : List ℕ) (q : Bytes) (k number kind : ℕ) (body : Bytes) (r 
           words = W.size;
           halves = H.size;
           bytes = B.size;
-          below = λ i l m. W.below i (omega arith);
-          above = λ i l. W.above i (omega (arith, r.free));
-          unacked = λ i l. H.below i (omega arith);
-          clock = λ i l. H.above i (omega (arith, r.free));
-          flags = λ i l. B.below i (omega arith);
-          rest = λ i l. B.above i (omega (arith, r.free));
+          below = λ i l m. W.below i 0 (omega arith);
+          above = λ i l. W.above i 0 (omega (arith, r.free));
+          unacked = λ i l. H.below i 0 (omega arith);
+          clock = λ i l. H.above i 0 (omega (arith, r.free));
+          flags = λ i l. B.below i 0 (omega arith);
+          rest = λ i l. B.above i 0 (omega (arith, r.free));
         }
 
     pub put_in : (from end : ℕ) → from ≡ bodies h k → end ≡ bodies h (at w 4) → (q₁ q₂ : Bytes) → q₁ ≡ placed q (from + length body) (take (end - from) (drop from q))

@@ -1,7 +1,7 @@
 // The frames that came too early, of a session that C lends, worked on where they lie.
 #![tactic(auto)]
 
-ghost use Rattle.std.specs.Prelude.{◌≡◌, true, List, [], ℕ, ◌+◌, ◌-◌, ◌≤◌, eqb, length, take, drop, replicate, if◌then◌else◌};
+ghost use Rattle.std.specs.Prelude.{◌≡◌, true, List, [], ℕ, ◌+◌, ◌-◌, ◌≤◌, length, take, drop, replicate};
 ghost use Rattle.stores.specs.Placed.{placed};
 ghost use Rattle.rules.specs.Lists.{Bytes, any, put};
 ghost use Rattle.rules.specs.State.{is_frame, frame_number};
@@ -11,7 +11,7 @@ ghost use Rattle.parts.specs.Parts.{at, queue_in};
 ghost use Rattle.link_queue.specs.Joins.{Joins, Joined};
 ghost use Rattle.link_queue.specs.Steps.{bodies, Summing, Topped, Below, Entering, Requeued};
 
-use parts::{Bytes, Halves, Words, full_bytes, full_halves, full_words};
+use parts::{Bytes, Halves, Words};
 
 // ---- where the bodies lie
 
@@ -21,24 +21,13 @@ pub fn start(halves: &Halves, k: usize) -> usize
     ensures { result ≡ bodies halves.now k }
 {
     let mut sum: u32 = 0;
-    let mut i = 0;
-    while i < k {
+    for i in 0..k {
         sum += halves[parts::QUEUED_LENS + i];
-        i += 1;
     }
     sum as usize
 }
 
 // ---- asked
-
-fn same_of(a: u64, b: u64) -> u64
-    ensures { (result ≡ (if eqb a b then 1 else 0)) × (result ≤ 1) }
-{
-    if a == b {
-        return 1;
-    }
-    0
-}
 
 // Whether a number is above all that are queued, as that of a frame that comes mostly is.
 fn above(words: &Words, number: u64) -> bool
@@ -59,10 +48,8 @@ pub fn find(words: &Words, number: u64) -> bool
 {
     let count = words[parts::QUEUED] as usize;
     let mut sum: u64 = 0;
-    let mut i = 0;
-    while i < count {
-        sum += same_of(words[parts::QUEUED_NUMBERS + i], number);
-        i += 1;
+    for i in 0..count {
+        sum += u64::from(words[parts::QUEUED_NUMBERS + i] == number);
     }
     0 < sum
 }
@@ -84,14 +71,12 @@ pub fn up_to(words: &Words, number: u64) -> usize
     ensures { (h b : List ℕ) → Leads number (queue_in words.now h b) result }
 {
     let count = words[parts::QUEUED] as usize;
-    let mut i = 0;
-    while i < count {
+    for i in 0..count {
         if number < words[parts::QUEUED_NUMBERS + i] {
             return i;
         }
-        i += 1;
     }
-    i
+    count
 }
 
 // ---- put in
@@ -144,22 +129,19 @@ fn insert_at(
     requires { Room (queue_in words.old halves.old bytes.old) (length store.old) k (length body.now) }
     ensures { Requeued (with_at k (arrived number kind body.now) (frames_of (queue_in words.old halves.old bytes.old) store.old)) words.old halves.old bytes.old store.old words.new halves.new bytes.new store.new }
 {
-    full_words(words);
-    full_halves(halves);
-    full_bytes(bytes);
     let n = body.len();
     let count = words[parts::QUEUED] as usize;
     let from = start(halves, k);
     let end = start(halves, count);
     raise_bodies(store, from, end, n);
     stores::copy_in(store, from, body);
-    link_moves::raise_words(
+    link_moves::raise(
         words,
         parts::QUEUED_NUMBERS + k,
         parts::QUEUED_NUMBERS + count,
     );
-    link_moves::raise_halves(halves, parts::QUEUED_LENS + k, parts::QUEUED_LENS + count);
-    link_moves::raise_bytes(bytes, parts::QUEUED_KINDS + k, parts::QUEUED_KINDS + count);
+    link_moves::raise(halves, parts::QUEUED_LENS + k, parts::QUEUED_LENS + count);
+    link_moves::raise(bytes, parts::QUEUED_KINDS + k, parts::QUEUED_KINDS + count);
     words[parts::QUEUED_NUMBERS + k] = number;
     words[parts::QUEUED] = count as u64 + 1;
     halves[parts::QUEUED_LENS + k] = n as u32;
@@ -180,9 +162,6 @@ pub fn insert(
     requires { Entering words.old halves.old bytes.old store.old end number (length body.now) }
     ensures { Requeued (put frame_number (arrived number kind body.now) (frames_of (queue_in words.old halves.old bytes.old) store.old)) words.old halves.old bytes.old store.old words.new halves.new bytes.new store.new }
 {
-    full_words(words);
-    full_halves(halves);
-    full_bytes(bytes);
     if above(words, number) {
         join(words, halves, bytes, store, end, number, kind, body);
         return;
@@ -211,7 +190,6 @@ pub fn clear(words: &mut Words, halves: &Halves, bytes: &Bytes, store: &mut [u8]
     requires { ExactQueue (queue_in words.old halves.now bytes.now) (length store.old) }
     ensures { Requeued [] words.old halves.now bytes.now store.old words.new halves.now bytes.now store.new }
 {
-    full_words(words);
     let count = words[parts::QUEUED] as usize;
     let end = start(halves, count);
     stores::clear(store, 0, end);
@@ -223,20 +201,19 @@ fn shed(words: &mut Words, halves: &mut Halves, bytes: &mut Bytes, store: &mut [
     requires { (k ≤ at words.old 4) × ExactQueue (queue_in words.old halves.old bytes.old) (length store.old) }
     ensures { Requeued (drop k (frames_of (queue_in words.old halves.old bytes.old) store.old)) words.old halves.old bytes.old store.old words.new halves.new bytes.new store.new }
 {
-    full_words(words);
     let count = words[parts::QUEUED] as usize;
     let from = start(halves, k);
     let end = start(halves, count);
     let left = count - k;
     lower_bodies(store, from, end);
-    link_moves::lower_words(
+    link_moves::lower(
         words,
         parts::QUEUED_NUMBERS,
         parts::QUEUED_NUMBERS + k,
         left,
     );
-    link_moves::lower_halves(halves, parts::QUEUED_LENS, parts::QUEUED_LENS + k, left);
-    link_moves::lower_bytes(bytes, parts::QUEUED_KINDS, parts::QUEUED_KINDS + k, left);
+    link_moves::lower(halves, parts::QUEUED_LENS, parts::QUEUED_LENS + k, left);
+    link_moves::lower(bytes, parts::QUEUED_KINDS, parts::QUEUED_KINDS + k, left);
     words[parts::QUEUED] = left as u64;
 }
 
@@ -251,7 +228,6 @@ pub fn drop_front(
     requires { (k ≤ at words.old 4) × ExactQueue (queue_in words.old halves.old bytes.old) (length store.old) }
     ensures { Requeued (drop k (frames_of (queue_in words.old halves.old bytes.old) store.old)) words.old halves.old bytes.old store.old words.new halves.new bytes.new store.new }
 {
-    full_words(words);
     if k == 0 {
         return;
     }

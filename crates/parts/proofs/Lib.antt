@@ -4,3 +4,4 @@ pub mod Fields
 pub mod Opened
 pub mod Drives
 pub mod After
+pub mod Flags

@@ -1,12 +1,7 @@
-use native.Mathlib.Omega.{arith}
-use Rattle.link_numbers.proofs.Changes.{raising_none, raising_more, raised}
+use Rattle.link_numbers.proofs.Changes.{put_in}
 use Rattle.link_numbers.proofs.put_at.Goals as goal
 
-pub loop-j-init : goal.loop-j-init
-loop-j-init c = raising_none c.requires.0 c.requires.1 c.requires.2
-
-pub loop-j-preserved : goal.loop-j-preserved
-loop-j-preserved c = raising_more c.loop-j.invariant c.loop-j-test.true
-
 pub returns : goal.returns
-returns c = raised c.loop-j.invariant c.args.n (omega arith)
+returns c =
+    let a = c.args in
+    put_in a.from a.at a.words.now c.copy_within.new.self c.requires.0 a.i c.requires.1 c.requires.2 c.copy_within.ensures.len c.copy_within.ensures.by_index a.n

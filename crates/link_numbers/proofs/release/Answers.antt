@@ -1,7 +1,9 @@
 use Prim.Native.Nat.{◌+◌}
 use native.Mathlib.Omega.{arith}
+use mathlib.Core.Path.{◌∙◌}
 use lib.Dec.{ltb}
 use Rattle.parts.specs.Parts.{at}
+use Rattle.parts.proofs.Flags.{as_number}
 use Rattle.numbers.proofs.Passes.{step_small}
 use Rattle.link_numbers.proofs.Changes.{releasing_in, releasing_on, released}
 use Rattle.link_numbers.proofs.release.Goals as goal
@@ -12,11 +14,11 @@ loop-i-init c = releasing_in c.args.upto c.args.list.now c.args.n c.requires.0 c
 pub overflow_add-k : goal.overflow_add-k
 overflow_add-k c =
     let a = c.args in
-    omega (arith, c.loop-i.invariant.releasing.sifted.behind, c.later-k.ensures, step_small (ltb a.upto (at c.loop-i.words (a.from + c.loop-i.i))))
+    omega (arith, c.loop-i.invariant.releasing.sifted.behind, (c.from-k.ensures ∙ as_number (ltb c.args.upto (at c.loop-i.words (c.args.from + c.loop-i.i)))), step_small (ltb a.upto (at c.loop-i.words (a.from + c.loop-i.i))))
 
 pub loop-i-preserved : goal.loop-i-preserved
 loop-i-preserved c =
-    releasing_on c.loop-i.invariant c.loop-i-test.true c.later-k.ensures c.list_one-events.auto.list c.list_one-events.ensures
+    releasing_on c.loop-i.invariant c.loop-i-test.true (c.from-k.ensures ∙ as_number (ltb c.args.upto (at c.loop-i.words (c.args.from + c.loop-i.i)))) c.list_one-events.auto.list c.list_one-events.ensures
 
 pub returns : goal.returns
 returns c = released c.loop-i.invariant c.loop-i-test.false

@@ -8,7 +8,7 @@ loop-j-init c = (c.requires.0, omega arith, λ h. absurd (omega arith))
 pub returns-then-words-from : goal.returns-then-words-from
 returns-then-words-from c =
     let a = c.args in
-    seat_in a.from a.words.now a.count (omega arith) (omega arith) c.requires.1 a.n c.loop-j.j (omega arith) (λ h. c.if-words-from.true) c.loop-j.invariant.2
+    omega (arith, seat_in a.from a.words.now a.count (omega arith) (omega arith) c.requires.1 a.n c.loop-j.j (omega arith) (λ h. c.if-words-from.true) c.loop-j.invariant.2)
 
 pub loop-j-preserved : goal.loop-j-preserved
 loop-j-preserved c = (c.loop-j.invariant.0, omega arith, λ h. c.if-words-from.false)
@@ -16,4 +16,4 @@ loop-j-preserved c = (c.loop-j.invariant.0, omega arith, λ h. c.if-words-from.f
 pub returns : goal.returns
 returns c =
     let a = c.args in
-    seat_in a.from a.words.now a.count (omega arith) (omega arith) c.requires.1 a.n c.loop-j.j (omega arith) (λ h. absurd (omega arith)) c.loop-j.invariant.2
+    omega (arith, seat_in a.from a.words.now a.count (omega arith) (omega arith) c.requires.1 a.n c.loop-j.j (omega arith) (λ h. absurd (omega arith)) c.loop-j.invariant.2)

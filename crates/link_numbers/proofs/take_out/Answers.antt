@@ -1,7 +1,9 @@
 use Prim.Native.Nat.{◌+◌}
 use native.Mathlib.Omega.{arith}
+use mathlib.Core.Path.{◌∙◌}
 use Rattle.rules.specs.Acks.{differs_from}
 use Rattle.parts.specs.Parts.{at}
+use Rattle.parts.proofs.Flags.{as_number}
 use Rattle.numbers.proofs.Passes.{step_small}
 use Rattle.link_numbers.proofs.Changes.{sifting_none, sifting_more, sifted_out}
 use Rattle.link_numbers.proofs.take_out.Goals as goal
@@ -10,10 +12,10 @@ pub loop-i-init : goal.loop-i-init
 loop-i-init c = sifting_none (differs_from c.args.n) c.requires
 
 pub overflow_add-k : goal.overflow_add-k
-overflow_add-k c = omega (arith, c.loop-i.invariant.sifted.behind, c.other-k.ensures, step_small (differs_from c.args.n (at c.loop-i.words (c.args.from + c.loop-i.i))))
+overflow_add-k c = omega (arith, c.loop-i.invariant.sifted.behind, (c.from-k.ensures ∙ as_number (differs_from c.args.n (at c.loop-i.words (c.args.from + c.loop-i.i)))), step_small (differs_from c.args.n (at c.loop-i.words (c.args.from + c.loop-i.i))))
 
 pub loop-i-preserved : goal.loop-i-preserved
-loop-i-preserved c = sifting_more c.loop-i.invariant _ c.loop-i-test.true c.other-k.ensures
+loop-i-preserved c = sifting_more c.loop-i.invariant _ c.loop-i-test.true (c.from-k.ensures ∙ as_number (differs_from c.args.n (at c.loop-i.words (c.args.from + c.loop-i.i))))
 
 pub returns : goal.returns
 returns c = sifted_out c.loop-i.invariant c.loop-i-test.false

@@ -1,21 +1,21 @@
-use mathlib.Core.Path.{ap}
-use Prim.Native.Nat.{ℕ, ◌-◌, ◌≤◌}
+use mathlib.Core.Path.{refl}
+use Prim.Native.Nat.{◌≤◌}
 use native.Mathlib.Omega.{arith}
 use Rattle.parts.specs.Parts.{at}
 use Rattle.link_outbox.proofs.Fronts.{stay-within, shed_none, front_of}
 use Rattle.link_outbox.proofs.acknowledge.Goals as goal
 
 pub overflow_sub-gone : goal.overflow_sub-gone
-overflow_sub-gone c = let within : c.size.result ≤ at c.args.words.now 1 = omega (arith, c.size.ensures, c.staying-stay.ensures, stay-within c.args.ack c.args.words.now c.args.halves.now c.args.bytes.now c.args.store.now c.requires c.full_words.ensures c.full_halves.ensures c.full_bytes.ensures) in within
+overflow_sub-gone c = let within : c.staying-stay.result ≤ at c.args.words.now 1 = omega (arith, c.staying-stay.ensures, stay-within c.args.ack c.args.words.now c.args.halves.now c.args.bytes.now c.args.store.now c.requires (omega arith) (omega arith) (omega arith)) in within
 
 pub returns-then-gone-eq0 : goal.returns-then-gone-eq0
-returns-then-gone-eq0 c = let within : c.size.result ≤ at c.args.words.now 1 = omega (arith, c.size.ensures, c.staying-stay.ensures, stay-within c.args.ack c.args.words.now c.args.halves.now c.args.bytes.now c.args.store.now c.requires c.full_words.ensures c.full_halves.ensures c.full_bytes.ensures) in
-    shed_none c.args.ack c.args.words.now c.args.halves.now c.args.bytes.now c.args.store.now c.requires c.full_words.ensures c.full_halves.ensures c.full_bytes.ensures
-    (omega (arith, within, c.if-gone-eq0.true, c.size.ensures, c.staying-stay.ensures))
+returns-then-gone-eq0 c = let within : c.staying-stay.result ≤ at c.args.words.now 1 = omega (arith, c.staying-stay.ensures, stay-within c.args.ack c.args.words.now c.args.halves.now c.args.bytes.now c.args.store.now c.requires (omega arith) (omega arith) (omega arith)) in
+    shed_none c.args.ack c.args.words.now c.args.halves.now c.args.bytes.now c.args.store.now c.requires (omega arith) (omega arith) (omega arith)
+    (omega (arith, within, c.if-gone-eq0.true, c.staying-stay.ensures))
 
 pub returns-then-staying-stay : goal.returns-then-staying-stay
 returns-then-staying-stay c =
     c.shed.ensures c.args.ack
-    (front_of c.args.ack c.args.words.now c.args.halves.now c.args.bytes.now c.args.store.now c.requires c.full_words.ensures c.full_halves.ensures c.full_bytes.ensures
+    (front_of c.args.ack c.args.words.now c.args.halves.now c.args.bytes.now c.args.store.now c.requires (omega arith) (omega arith) (omega arith)
     c.staying-stay.result _ c.staying.result c.staying-stay.ensures
-    (ap (λ (n : ℕ). at c.args.words.now 1 - n) c.size.ensures) c.staying.ensures c.if-staying-stay.true)
+    refl c.staying.ensures c.if-staying-stay.true)

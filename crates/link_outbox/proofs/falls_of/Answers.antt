@@ -1,7 +1,10 @@
 use native.Mathlib.Omega.{arith}
+use mathlib.Core.Path.{◌∙◌}
+use lib.Dec.{leb}
+use Rattle.parts.proofs.Flags.{as_few}
 use Prim.Native.Nat.{◌-◌}
 use Rattle.parts.specs.Parts.{at, unacked_at}
-use Rattle.link_outbox.proofs.Sounds.{falls_more, falls-end, fall-few}
+use Rattle.link_outbox.proofs.Sounds.{falls_more, falls-end, fall_is}
 use Rattle.link_outbox.proofs.falls_of.Goals as goal
 
 pub loop-i-init : goal.loop-i-init
@@ -10,7 +13,7 @@ loop-i-init c = (omega arith, omega arith, omega arith, omega arith, λ b. omega
 pub overflow_add-sum : goal.overflow_add-sum
 overflow_add-sum c =
     let l = c.loop-i in
-    omega (arith, c.fall_of-sum.ensures, fall-few (at c.args.halves.now (l.i - 1)) (at c.args.halves.now l.i))
+    omega (arith, c.from-sum.ensures, as_few (leb (at c.args.halves.now l.i) (at c.args.halves.now (l.i - 1))))
 
 pub loop-i-preserved : goal.loop-i-preserved
 loop-i-preserved c =
@@ -19,8 +22,8 @@ loop-i-preserved c =
       omega arith,
       omega arith,
       omega arith,
-      omega (arith, c.fall_of-sum.ensures, fall-few (at a.halves.now (l.i - 1)) (at a.halves.now l.i)),
-      λ b. falls_more a.halves.now b l.i a.count l.sum c.fall_of-sum.result _ l.invariant.0 c.loop-i-test.true c.fall_of-sum.ensures (l.invariant.4 b),
+      omega (arith, c.from-sum.ensures, as_few (leb (at a.halves.now l.i) (at a.halves.now (l.i - 1)))),
+      λ b. falls_more a.halves.now b l.i a.count l.sum c.from-sum.result _ l.invariant.0 c.loop-i-test.true (c.from-sum.ensures ∙ fall_is (at a.halves.now (l.i - 1)) (at a.halves.now l.i)) (l.invariant.4 b),
     )
 
 pub returns : goal.returns

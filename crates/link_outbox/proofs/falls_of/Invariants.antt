@@ -9,6 +9,3 @@ use Rattle.link_outbox.proofs.falls_of.Given as goal
 
 abbrev pub invariant-loop-i : goal.invariant-loop-i
 invariant-loop-i l = (l.count ≤ 256) × (1 ≤ l.i) × (l.i ≤ l.count + 1) × (l.sum ≤ l.i) × ((b : List ℕ) → l.sum + falls (at l.halves (l.i - 1)) (slice l.i l.count (seats 256 (unacked_at l.halves b))) ≡ falls (at l.halves 0) (slice 1 l.count (seats 256 (unacked_at l.halves b))))
-
-abbrev pub decreases-loop-i : goal.decreases-loop-i
-decreases-loop-i l = l.count - l.i

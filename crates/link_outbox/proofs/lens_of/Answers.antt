@@ -10,7 +10,7 @@ loop-i-init c = (omega arith, omega arith, omega arith, λ b. omega arith)
 pub overflow_add-sum : goal.overflow_add-sum
 overflow_add-sum c =
     let l = c.loop-i in
-    omega (arith, c.len_of-sum.ensures.0, c.len_of-sum.ensures.1)
+    omega (arith, c.from-sum.ensures)
 
 pub loop-i-preserved : goal.loop-i-preserved
 loop-i-preserved c =
@@ -18,8 +18,8 @@ loop-i-preserved c =
     let a = c.args in (
       omega arith,
       omega arith,
-      omega (arith, c.len_of-sum.ensures.0, c.len_of-sum.ensures.1),
-      λ b. omega (arith, c.len_of-sum.ensures.0, c.len_of-sum.ensures.1, l.invariant.3 b, total-seats (unacked_at a.halves.now b) l.i a.count len_u c.loop-i-test.true l.invariant.0),
+      omega (arith, c.from-sum.ensures),
+      λ b. omega (arith, c.from-sum.ensures, l.invariant.3 b, total-seats (unacked_at a.halves.now b) l.i a.count len_u c.loop-i-test.true l.invariant.0),
     )
 
 pub returns : goal.returns

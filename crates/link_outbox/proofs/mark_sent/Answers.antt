@@ -17,7 +17,7 @@ bounds-bytes-i c = let few : at c.args.words.now 1 ≤ 256 = (sound_facts (outbo
 pub returns-then-i-count : goal.returns-then-i-count
 returns-then-i-count c =
     let a = c.args in
-    marked a.words.now a.halves.now a.bytes.now a.number c.seat-i.result c.requires c.seat-i.ensures c.full_bytes.ensures c.if-i-count.true
+    marked a.words.now a.halves.now a.bytes.now a.number c.seat-i.result c.requires c.seat-i.ensures (omega arith) c.if-i-count.true
 
 pub returns : goal.returns
 returns c =

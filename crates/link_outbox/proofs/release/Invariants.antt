@@ -1,5 +1,4 @@
 use mathlib.Core.Path.{◌≡◌}
-use Prim.Native.Nat.{◌-◌}
 use Rattle.rules.specs.Commits as R
 use Rattle.outbox.proofs.Listings.{Listing}
 use Rattle.parts.specs.Parts.{at, outbox_in}
@@ -9,6 +8,3 @@ use Rattle.link_outbox.proofs.release.Given as goal
 abbrev pub invariant-loop-i : goal.invariant-loop-i
 invariant-loop-i l =
     (l.count ≡ at l.words 1) × Freeing l.upto l.halves l.initial.bytes l.bytes l.i × Listing (R.releases l.upto) (outbox_in l.words l.halves l.initial.bytes) l.initial.list l.n l.list l.k l.from l.i
-
-abbrev pub decreases-loop-i : goal.decreases-loop-i
-decreases-loop-i l = l.count - l.i

@@ -1,10 +1,10 @@
-use mathlib.Core.Path.{refl}
+use mathlib.Core.Path.{refl, sym}
 use native.Mathlib.Omega.{arith}
 use Rattle.rules.specs.Replay.{not_pending}
 use Rattle.outbox.specs.Records.{not_pending_u}
 use Rattle.outbox.proofs.Listings.{listing-room}
 use Rattle.outbox.proofs.Commits.{replayed}
-use Rattle.link_outbox.proofs.Frees.{listing_start, listing-body, listing-turn}
+use Rattle.link_outbox.proofs.Frees.{not_not, listing_start, listing-body, listing-turn}
 use Rattle.link_outbox.proofs.replay.Goals as goal
 
 pub loop-i-init : goal.loop-i-init
@@ -18,7 +18,7 @@ send_if-m-requires c = listing-room c.loop-i.invariant.1 c.loop-i-test.true
 pub overflow_add-from : goal.overflow_add-from
 overflow_add-from c =
     let a = c.args in
-    omega (arith, c.size-from.ensures, listing-body a.words.now a.halves.now a.bytes.now c.loop-i.invariant.1 c.loop-i-test.true)
+    omega (arith, listing-body a.words.now a.halves.now a.bytes.now c.loop-i.invariant.1 c.loop-i-test.true)
 
 pub loop-i-preserved : goal.loop-i-preserved
 loop-i-preserved c =
@@ -26,8 +26,8 @@ loop-i-preserved c =
     let l = c.loop-i in
     let lt = c.loop-i-test.true in (
       refl,
-      listing-turn a.words.now a.halves.now a.bytes.now l.invariant.1 lt not_pending_u (λ u s. refl) a.bytes.now refl c.is_clear-goes.result
-          c.is_clear-goes.ensures c.send_if-m.new.list c.send_if-m.result c.send_if-m.auto.list c.send_if-m.ensures c.size-from.result c.size-from.ensures,
+      listing-turn a.words.now a.halves.now a.bytes.now l.invariant.1 lt not_pending_u (λ u s. refl) a.bytes.now refl _
+          (sym (not_not _)) c.send_if-m.new.list c.send_if-m.result c.send_if-m.auto.list c.send_if-m.ensures _ refl,
     )
 
 pub shape_of-list : goal.shape_of-list

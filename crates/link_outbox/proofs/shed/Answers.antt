@@ -25,7 +25,7 @@ clear-requires c = let reach : c.used-end.result ≤ length c.args.store.now = o
 
 pub returns : goal.returns
 returns c =
-    λ ack f. shed_all ack c.args.words.now c.args.halves.now c.args.bytes.now c.args.store.now c.requires.1 c.full_words.ensures c.full_halves.ensures c.full_bytes.ensures
+    λ ack f. shed_all ack c.args.words.now c.args.halves.now c.args.bytes.now c.args.store.now c.requires.1 (omega arith) (omega arith) (omega arith)
     c.args.k f c.lower_records.new.halves c.lower_records.new.bytes c.lower_records.ensures.0 c.lower_records.ensures.1
     c.used-from.result c.used-end.result (c.used-from.ensures c.args.bytes.now) (c.used-end.ensures c.args.bytes.now)
     c.move_down.new.store c.clear.new.store c.move_down.ensures c.clear.ensures

@@ -18,8 +18,8 @@ returns-then-n-eq0 c = λ b. sound_none c.args.words.now c.args.halves.now b (om
 pub returns-then-halves-lt1 : goal.returns-then-halves-lt1
 returns-then-halves-lt1 c = λ b. not_sound (outbox_in c.args.words.now c.args.halves.now b) (λ s. omega (arith, first_positive c.args.words.now c.args.halves.now b s (omega arith)))
 
-pub returns-then-next-wide : goal.returns-then-next-wide
-returns-then-next-wide c = λ b. not_sound (outbox_in c.args.words.now c.args.halves.now b) (λ s. omega (arith, c.wide.ensures, last-below c.args.words.now c.args.halves.now b s (omega arith)))
+pub returns-then-next-from : goal.returns-then-next-from
+returns-then-next-from c = λ b. not_sound (outbox_in c.args.words.now c.args.halves.now b) (λ s. omega (arith, c.from.ensures, last-below c.args.words.now c.args.halves.now b s (omega arith)))
 
 pub returns-then-falls_in-gt0 : goal.returns-then-falls_in-gt0
 returns-then-falls_in-gt0 c = λ b. not_sound (outbox_in c.args.words.now c.args.halves.now b) (λ s. omega (arith, c.falls_in.ensures b, no_falls c.args.words.now c.args.halves.now b s (omega arith)))

@@ -1,4 +1,5 @@
 use native.Mathlib.Omega.{arith}
+use borrow.Author.Rules.{rules}
 use Rattle.parts.specs.Parts.{unacked_at}
 use Rattle.link_outbox.specs.Tests.{stayer}
 use Rattle.link_outbox.proofs.Sounds.{total-seats, total-end}
@@ -6,7 +7,7 @@ use Rattle.link_outbox.proofs.Fronts.{stayer-one}
 use Rattle.link_outbox.proofs.staying.Goals as goal
 
 pub loop-i-init : goal.loop-i-init
-loop-i-init c = (omega arith, omega arith, omega arith, c.low_of-limit.ensures, omega arith)
+loop-i-init c = (omega arith, omega arith, omega arith, search rules, omega arith)
 
 pub overflow_add-sum : goal.overflow_add-sum
 overflow_add-sum c =

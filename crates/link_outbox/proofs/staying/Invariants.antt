@@ -1,5 +1,5 @@
 use mathlib.Core.Path.{◌≡◌}
-use Prim.Native.Nat.{◌+◌, ◌-◌, ◌≤◌}
+use Prim.Native.Nat.{◌+◌, ◌≤◌}
 use lib.Seq.{slice}
 use Rattle.rules.specs.Lists.{total}
 use Rattle.parts.specs.Seats.{seats}
@@ -9,6 +9,3 @@ use Rattle.link_outbox.proofs.staying.Given as goal
 
 abbrev pub invariant-loop-i : goal.invariant-loop-i
 invariant-loop-i l = (l.i ≤ l.count) × (l.count ≤ 256) × (l.sum ≤ l.i) × (l.limit ≡ low l.ack) × (l.sum + total (stayer l.ack) (slice l.i l.count (seats 256 (unacked_at l.halves l.bytes))) ≡ total (stayer l.ack) (slice l.start l.count (seats 256 (unacked_at l.halves l.bytes))))
-
-abbrev pub decreases-loop-i : goal.decreases-loop-i
-decreases-loop-i l = l.count - l.i

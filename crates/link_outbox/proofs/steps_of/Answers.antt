@@ -1,7 +1,10 @@
 use native.Mathlib.Omega.{arith}
+use mathlib.Core.Path.{◌∙◌}
+use lib.Dec.{eqb}
+use Rattle.parts.proofs.Flags.{as_number, as_few}
 use Prim.Native.Nat.{◌+◌}
 use Rattle.parts.specs.Parts.{at}
-use Rattle.link_outbox.proofs.Sounds.{same-few, steps_more, steps_all}
+use Rattle.link_outbox.proofs.Sounds.{steps_more, steps_all}
 use Rattle.link_outbox.proofs.steps_of.Goals as goal
 
 pub loop-i-init : goal.loop-i-init
@@ -11,7 +14,7 @@ pub overflow_add-sum : goal.overflow_add-sum
 overflow_add-sum c =
     let l = c.loop-i in
     let a = c.args in
-    omega (arith, c.same_of-sum.ensures, same-few (at a.halves.now l.i) (a.first + l.i))
+    omega (arith, c.from-sum.ensures, as_few (eqb (at a.halves.now l.i) (a.first + l.i)))
 
 pub loop-i-preserved : goal.loop-i-preserved
 loop-i-preserved c =
@@ -20,8 +23,8 @@ loop-i-preserved c =
       omega arith,
       l.invariant.1,
       l.invariant.2,
-      omega (arith, c.same_of-sum.ensures, same-few (at a.halves.now l.i) (a.first + l.i)),
-      steps_more a.halves.now a.first l.i l.sum c.same_of-sum.result l.invariant.3 l.invariant.4 c.same_of-sum.ensures,
+      omega (arith, c.from-sum.ensures, as_few (eqb (at a.halves.now l.i) (a.first + l.i))),
+      steps_more a.halves.now a.first l.i l.sum c.from-sum.result l.invariant.3 l.invariant.4 (c.from-sum.ensures ∙ as_number (eqb (at a.halves.now l.i) (a.first + l.i))),
     )
 
 pub returns : goal.returns

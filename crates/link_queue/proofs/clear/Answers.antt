@@ -14,4 +14,4 @@ clear-requires c =
 
 pub returns : goal.returns
 returns c =
-    cleared c.args.words.now c.args.halves.now c.args.bytes.now c.args.store.now c.requires c.full_words.ensures c.start-end.result c.start-end.ensures c.clear.new.store c.clear.ensures
+    cleared c.args.words.now c.args.halves.now c.args.bytes.now c.args.store.now c.requires (omega arith) c.start-end.result c.start-end.ensures c.clear.new.store c.clear.ensures

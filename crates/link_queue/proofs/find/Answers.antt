@@ -1,4 +1,8 @@
-use mathlib.Core.Path.{refl}
+use mathlib.Core.Path.{refl, ◌∙◌}
+use Prim.Native.Nat.{◌+◌}
+use lib.Dec.{eqb}
+use Rattle.parts.specs.Parts.{at}
+use Rattle.parts.proofs.Flags.{as_number, as_few}
 use native.Mathlib.Omega.{arith}
 use Rattle.link_queue.proofs.Finds.{counted_none, counted_more, counted_all}
 use Rattle.link_queue.proofs.find.Goals as goal
@@ -7,12 +11,12 @@ pub loop-i-init : goal.loop-i-init
 loop-i-init c = (refl, c.requires, omega arith, counted_none _ _)
 
 pub overflow_add-sum : goal.overflow_add-sum
-overflow_add-sum c = omega (arith, c.loop-i.invariant.3.few, c.same_of-sum.ensures.1)
+overflow_add-sum c = omega (arith, c.loop-i.invariant.3.few, c.from-sum.ensures, as_few (eqb (at c.args.words.now (16 + c.loop-i.i)) c.args.number))
 
 pub loop-i-preserved : goal.loop-i-preserved
 loop-i-preserved c =
     let l = c.loop-i in
-    (l.invariant.0, l.invariant.1, omega arith, counted_more _ _ _ _ _ l.invariant.3 c.same_of-sum.ensures.0 c.same_of-sum.ensures.1)
+    (l.invariant.0, l.invariant.1, omega arith, counted_more _ _ _ _ _ l.invariant.3 (c.from-sum.ensures ∙ as_number _) (omega (arith, c.from-sum.ensures, as_few (eqb (at c.args.words.now (16 + l.i)) c.args.number))))
 
 pub returns : goal.returns
 returns c =

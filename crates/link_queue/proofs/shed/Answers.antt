@@ -10,23 +10,19 @@ use Rattle.link_queue.proofs.shed.Goals as goal
 
 pub start-from-requires : goal.start-from-requires
 start-from-requires c =
-    let a = c.before in
-    summing a.args.words.now a.args.halves.now a.args.bytes.now a.args.k a.requires.0 a.requires.1.few a.requires.1.small
+    summing c.args.words.now c.args.halves.now c.args.bytes.now c.args.k c.requires.0 c.requires.1.few c.requires.1.small
 
 pub start-end-requires : goal.start-end-requires
 start-end-requires c =
-    let a = c.before.before in
-    summing a.args.words.now a.args.halves.now a.args.bytes.now (at a.args.words.now 4) (omega arith) a.requires.1.few a.requires.1.small
+    summing c.args.words.now c.args.halves.now c.args.bytes.now (at c.args.words.now 4) (omega arith) c.requires.1.few c.requires.1.small
 
 pub lower_bodies-requires : goal.lower_bodies-requires
 lower_bodies-requires c =
-    let a = c.before.before in
-    (omega (arith, c.start-from.ensures, c.start-end.ensures, start-before a.args.words.now a.args.halves.now a.args.bytes.now a.args.k a.requires.0 a.requires.1.few), omega (arith, c.start-end.ensures, end-bodies a.args.words.now a.args.halves.now a.args.bytes.now a.requires.1.few, a.requires.1.small, a.requires.1.room))
+    (omega (arith, c.start-from.ensures, c.start-end.ensures, start-before c.args.words.now c.args.halves.now c.args.bytes.now c.args.k c.requires.0 c.requires.1.few), omega (arith, c.start-end.ensures, end-bodies c.args.words.now c.args.halves.now c.args.bytes.now c.requires.1.few, c.requires.1.small, c.requires.1.room))
 
 pub returns : goal.returns
 returns c =
-    let a = c.before in
-    dropped_some a.args.words.now a.args.halves.now a.args.bytes.now a.args.store.now a.requires.1 c.full_words.ensures
-    a.args.k a.requires.0 c.lower_words.new.words c.lower_halves.new.halves c.lower_bytes.new.bytes c.lower_words.ensures c.lower_halves.ensures c.lower_bytes.ensures
+    dropped_some c.args.words.now c.args.halves.now c.args.bytes.now c.args.store.now c.requires.1 (omega arith)
+    c.args.k c.requires.0 c.lower.new.part c.lower-2.new.part c.lower-3.new.part c.lower.ensures c.lower-2.ensures c.lower-3.ensures
     c.start-from.result c.start-end.result c.start-from.ensures c.start-end.ensures
-    (placed a.args.store.now 0 (take (c.start-end.result - c.start-from.result) (drop c.start-from.result a.args.store.now))) c.lower_bodies.new.store refl c.lower_bodies.ensures
+    (placed c.args.store.now 0 (take (c.start-end.result - c.start-from.result) (drop c.start-from.result c.args.store.now))) c.lower_bodies.new.store refl c.lower_bodies.ensures
