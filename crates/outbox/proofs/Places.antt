@@ -23,6 +23,7 @@ use Rattle.outbox.specs.declared.Place.{Place}
 use Rattle.outbox.specs.View.{len_u, unacked, used_u, unacked_of, end_u, blank_u, ExactOutbox}
 use Rattle.outbox.specs.Records.{place_u, answer_of}
 
+-- a place, by its parts
 abbrev pub place_at : ℕ → ℕ → Place
 place_at start len = record { start = start; len = len }
 
