@@ -1,4 +1,5 @@
 -- A fetch, test by test. Assumes nothing.
+use Rattle.std.specs.Prelude.{Option}
 use mathlib.Core.Path.{◌≡◌, refl, sym, ap, ◌∙◌}
 use mathlib.Core.Bool.{true, false}
 use mathlib.Core.List.{List, []}
@@ -43,7 +44,7 @@ module _ (n : ℕ) (s : SessionState) (o : Bytes) where
     pub find_unsound : sound_of s ≡ false → AnsweredWithOutbound (fetches n) s o (Refused BadRecord)
     find_unsound e l d q lq = sym (promise_unsound (fetches n) s (lent l d o q) (long l d q) known e)
 
-    module _ (e : sound_of s ≡ true) (full : Full s) {p at : Place} (is : p ≡ place_u n 0 (used_u s.outbox)) (found : p ≡ at) where
+    module _ (e : sound_of s ≡ true) (full : Full s) {p at : Option Place} (is : p ≡ place_u n 0 (used_u s.outbox)) (found : p ≡ at) where
       pub find_sound : AnsweredWithOutbound (fetches n) s o (answer_of at)
       unfolding taken_by step fetch
       find_sound l d q lq =

@@ -4,7 +4,6 @@
 ghost use Rattle.fetches.specs.Fetched.{AnsweredWithOutbound, Fetched};
 ghost use Rattle.rules.specs.Calls.{fetches};
 
-use outbox::Place;
 use peer_session::SessionState;
 use rules::{Answer, Refusal};
 
@@ -18,13 +17,12 @@ pub fn find(s: SessionState, outbound: &[u8], number: u64) -> Answer
     if !peer_session::sound(s) {
         return Answer::Refused(Refusal::BadRecord);
     }
-    let p = outbox::locate(s.outbox, number);
-    match p {
-        Place::At { start, len } => Answer::Held {
-            start: start,
-            len: len,
+    match outbox::locate(s.outbox, number) {
+        Some(place) => Answer::Held {
+            start: place.start,
+            len: place.len,
         },
-        Place::Nowhere => Answer::NotHeld,
+        None => Answer::NotHeld,
     }
 }
 
@@ -38,9 +36,8 @@ pub fn fetch(s: SessionState, outbound: &[u8], number: u64) -> &[u8]
     if !peer_session::sound(s) {
         return &outbound[..0];
     }
-    let p = outbox::locate(s.outbox, number);
-    match p {
-        Place::At { start, len } => stores::part(outbound, start, len),
-        Place::Nowhere => &outbound[..0],
+    match outbox::locate(s.outbox, number) {
+        Some(place) => stores::part(outbound, place.start, place.len),
+        None => &outbound[..0],
     }
 }

@@ -1,5 +1,5 @@
 -- What is asked of the unacked messages, whose numbers rise, by their records. Assumes nothing.
-use Rattle.std.specs.Prelude.{if◌then◌else◌}
+use Rattle.std.specs.Prelude.{if◌then◌else◌, Option, Some, None}
 use mathlib.Core.Path.{◌≡◌, refl, sym, ap, ◌∙◌}
 use mathlib.Core.Bool.{Bool, true, false, ◌&&◌, ◌||◌}
 use mathlib.Core.List.{List, [], ◌∷◌}
@@ -17,10 +17,10 @@ use Rattle.rules.specs.Handoff.{numbered_to}
 use Rattle.outbox.specs.declared.Unacked.{Unacked}
 use Rattle.outbox.specs.declared.Outbox.{Outbox}
 use Rattle.outbox.specs.declared.Place.{Place}
-use Rattle.outbox.specs.declared.Place.TheVariants.{At, Nowhere}
 use Rattle.outbox.specs.View.{num_u, len_u, unacked, used_u, unacked_of, blank_u}
 use Rattle.outbox.specs.Records.{place_u}
 use Rattle.outbox.specs.Sound.{sound_outbox_of}
+use Rattle.outbox.proofs.Places.{place_at}
 use Rattle.outbox.proofs.View.{sound_facts}
 use Rattle.handoffs.specs.Commands.{carries_body}
 
@@ -68,9 +68,9 @@ module _ (n : ℕ) (x : Outbox) (s : Bytes) where
 -- ---- whether a number with a body is unacked: numbers differ, so it is where the number is
 
 -- what lies at a place is a body
-abbrev pub lies_at : Place → Bytes → Bytes → Bool
-lies_at (At a k) s b = same (take k (drop a s)) b
-lies_at Nowhere s b = false
+abbrev pub lies_at : Option Place → Bytes → Bytes → Bool
+lies_at (Some p) s b = same (take p.len (drop p.start s)) b
+lies_at None s b = false
 
 or_false : (a b : Bool) → b ≡ false → a ≡ (a || b)
 or_false true b e = refl
@@ -88,7 +88,7 @@ carries-at n b at m (u ∷ us) s r =
     rest = (two (ltb m u.number) (rising num_u u.number us) r).1
 
     go : (t : Bool) → (t ≡ true → n ≤ u.number) → lies_at (place_u n (at + u.len) us) s b ≡ any (carries_body n b) (cut len_u unacked us (drop (at + u.len) s))
-        → lies_at (if t then At at u.len else place_u n (at + u.len) us) s b
+        → lies_at (if t then Some (place_at at u.len) else place_u n (at + u.len) us) s b
         ≡ ((t && same (take u.len (drop at s)) b) || any (carries_body n b) (cut len_u unacked us (drop u.len (drop at s))))
     go true h k =
         or_false (same (take u.len (drop at s)) b) _
@@ -97,13 +97,13 @@ carries-at n b at m (u ∷ us) s r =
         k
         ∙ ap (λ (z : Bytes). any (carries_body n b) (cut len_u unacked us z)) (sym (drop-drop u.len at s))
 
-module _ (n : ℕ) (x : Outbox) (s : Bytes) (sound : sound_outbox_of x ≡ true) {p : Place} (is : p ≡ place_u n 0 (used_u x)) where
+module _ (n : ℕ) (x : Outbox) (s : Bytes) (sound : sound_outbox_of x ≡ true) {p : Option Place} (is : p ≡ place_u n 0 (used_u x)) where
   lies : (b : Bytes) → lies_at p s b ≡ any (carries_body n b) (unacked_of x s)
   unfolding unacked_of
-  lies b = ap (λ (y : Place). lies_at y s b) is ∙ carries-at n b 0 0 (used_u x) s (sound_facts x sound).order
+  lies b = ap (λ (y : Option Place). lies_at y s b) is ∙ carries-at n b 0 0 (used_u x) s (sound_facts x sound).order
 
-  pub carries_here : (b : Bytes) (a k : ℕ) → p ≡ At a k → same (take k (drop a s)) b ≡ any (carries_body n b) (unacked_of x s)
-  carries_here b a k e = sym (ap (λ (y : Place). lies_at y s b) e) ∙ lies b
+  pub carries_here : (b : Bytes) (q : Place) → p ≡ Some q → same (take q.len (drop q.start s)) b ≡ any (carries_body n b) (unacked_of x s)
+  carries_here b q e = sym (ap (λ (y : Option Place). lies_at y s b) e) ∙ lies b
 
-  pub carries-none : (b : Bytes) → p ≡ Nowhere → false ≡ any (carries_body n b) (unacked_of x s)
-  carries-none b e = sym (ap (λ (y : Place). lies_at y s b) e) ∙ lies b
+  pub carries-none : (b : Bytes) → p ≡ None → false ≡ any (carries_body n b) (unacked_of x s)
+  carries-none b e = sym (ap (λ (y : Option Place). lies_at y s b) e) ∙ lies b

@@ -13,7 +13,7 @@ ghost use Rattle.setup.specs.Steps.{Comes};
 ghost use Rattle.handoffs.specs.Commands.{command_of, starting_in, commanding, HandsOver, carries_body, Vacant, Holding, validating};
 
 use events::Stop;
-use outbox::{Outbox, Place};
+use outbox::Outbox;
 use peer_session::{SessionState, TerminalHandoff};
 use rules::{Refusal, Setup};
 use session::Returned;
@@ -66,10 +66,9 @@ fn carried(o: Outbox, outbound: &[u8], number: u64, body: &[u8]) -> bool
     requires { (sound_outbox_of o ≡ true) × ExactOutbox o (length outbound.now) }
     ensures { result ≡ any (carries_body number body.now) (unacked_of o outbound.now) }
 {
-    let p = outbox::locate(o, number);
-    match p {
-        Place::At { start, len } => stores::same_bytes(stores::part(outbound, start, len), body),
-        Place::Nowhere => false,
+    match outbox::locate(o, number) {
+        Some(place) => stores::same_bytes(stores::part(outbound, place.start, place.len), body),
+        None => false,
     }
 }
 

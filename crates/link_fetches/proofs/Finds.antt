@@ -1,4 +1,5 @@
 -- A fetch on the parts of a session, answer by answer. Assumes nothing.
+use Rattle.std.specs.Prelude.{Option}
 use Prim.Native.Nat.{ℕ, ◌≤◌, ◌<◌}
 use mathlib.Core.Path.{◌≡◌, refl}
 use mathlib.Core.Bool.{true, false}
@@ -39,7 +40,7 @@ module _ (w h b : List ℕ) (t : Float) (o : Bytes) (number : ℕ) where
         → DrivenAnswer (parts w h b t) y (λ s a. AnsweredWithOutbound (fetches number) s o a)
     find_unsound k e = answers (parts w h b t) (Refused BadRecord) e (F.find_unsound number (opened_of (parts w h b t)) o lo k)
 
-    pub find_sound : sound_of (opened_of (parts w h b t)) ≡ true → Full (opened_of (parts w h b t)) → (p : Place) → p ≡ place_u number 0 (used_u (outbox_in w h b))
+    pub find_sound : sound_of (opened_of (parts w h b t)) ≡ true → Full (opened_of (parts w h b t)) → (p : Option Place) → p ≡ place_u number 0 (used_u (outbox_in w h b))
         → {y : LinkAnswer} → y ≡ answer_of (Records.answer_of p) 0 → DrivenAnswer (parts w h b t) y (λ s a. AnsweredWithOutbound (fetches number) s o a)
     unfolding opened_of
     find_sound k full p is e =

@@ -14,18 +14,18 @@ use parts::{Bytes, Halves, LinkAnswer, Words};
 use peer_session::SessionState;
 use rules::{Answer, Refusal};
 
-fn place_answer(p: Place) -> LinkAnswer
-    ensures { result ≡ answer_of (Records.answer_of p) 0 }
+fn place_answer(found: Option<Place>) -> LinkAnswer
+    ensures { result ≡ answer_of (Records.answer_of found) 0 }
 {
-    match p {
-        Place::At { start, len } => {
-            let a = Answer::Held {
-                start: start,
-                len: len,
+    match found {
+        Some(place) => {
+            let held = Answer::Held {
+                start: place.start,
+                len: place.len,
             };
-            link_codes::answer_of(a, 0)
+            link_codes::answer_of(held, 0)
         }
-        Place::Nowhere => link_codes::plain(5, 0, 0),
+        None => link_codes::plain(5, 0, 0),
     }
 }
 
@@ -46,6 +46,5 @@ pub fn find(
     if !link_sound::sound(words, halves, bytes) {
         return link_codes::refusal(Refusal::BadRecord);
     }
-    let p = link_outbox::locate(words, halves, number);
-    place_answer(p)
+    place_answer(link_outbox::locate(words, halves, number))
 }

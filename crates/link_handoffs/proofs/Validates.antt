@@ -1,4 +1,5 @@
 -- A command that meets a handoff, on the parts of a session. Assumes nothing.
+use Rattle.std.specs.Prelude.{Option, Some, None}
 use Prim.Native.Nat.{ℕ}
 use mathlib.Core.Path.{◌≡◌, sym, ap, ◌∙◌}
 use mathlib.Core.Bool.{Bool, true, false}
@@ -14,7 +15,6 @@ use Rattle.rules.specs.Lists.{Bytes, any, same}
 use Rattle.rules.specs.Handoff.{Command, numbered_to}
 use Rattle.outbox.specs.declared.Unacked.{Unacked}
 use Rattle.outbox.specs.declared.Place.{Place}
-use Rattle.outbox.specs.declared.Place.TheVariants.{At, Nowhere}
 use Rattle.outbox.specs.View.{blank_u, used_u, unacked_of}
 use Rattle.outbox.specs.Records.{place_u}
 use Rattle.outbox.specs.Sound.{sound_outbox_of}
@@ -41,7 +41,7 @@ module _ (w h b : List ℕ) (s : Bytes) (number : ℕ) where
       ap (λ (i : ℕ). leb i number) (e ∙ sym (ap (λ (u : Unacked). u.number) (get_d_seats 256 (unacked_at h b) 0 blank_u (omega arith))))
       ∙ to_some number (outbox_in w h b) s sound (length-seats 256 (unacked_at h b)) n
 
-module _ (w h b : List ℕ) (o : Bytes) (k : HoldingIn w h b (length o)) {p : Place} (is : (x : List ℕ) → p ≡ place_u (at w 9) 0 (used_u (outbox_in w h x)))
+module _ (w h b : List ℕ) (o : Bytes) (k : HoldingIn w h b (length o)) {p : Option Place} (is : (x : List ℕ) → p ≡ place_u (at w 9) 0 (used_u (outbox_in w h x)))
     {held : Bytes} (e : held ≡ take (at w 7) (drop 776 b)) where
   abbrev body : Bytes
   body = take (at w 7) (section 776 4096 b)
@@ -49,13 +49,13 @@ module _ (w h b : List ℕ) (o : Bytes) (k : HoldingIn w h b (length o)) {p : Pl
   body_is : held ≡ body
   body_is = e ∙ sym (held-body (at w 7) b k.within)
 
-  pub carried_here : (a n : ℕ) → p ≡ At a n → {m : Bytes} {r : Bool} → m ≡ take n (drop a o) → r ≡ same m held → r ≡ any (carries_body (at w 9) body) (unacked_of (outbox_in w h b) o)
-  carried_here a n f {m} em er =
-      er ∙ ap (λ (z : Bytes). same z held) em ∙ ap (λ (z : Bytes). same (take n (drop a o)) z) body_is
-      ∙ carries_here (at w 9) (outbox_in w h b) o k.sound (is b) body a n f
+  pub carried_here : (q : Place) → p ≡ Some q → {m : Bytes} {r : Bool} → m ≡ take q.len (drop q.start o) → r ≡ same m held → r ≡ any (carries_body (at w 9) body) (unacked_of (outbox_in w h b) o)
+  carried_here q f {m} em er =
+      er ∙ ap (λ (z : Bytes). same z held) em ∙ ap (λ (z : Bytes). same (take q.len (drop q.start o)) z) body_is
+      ∙ carries_here (at w 9) (outbox_in w h b) o k.sound (is b) body q f
 
-  pub carried_nowhere : p ≡ Nowhere → false ≡ any (carries_body (at w 9) body) (unacked_of (outbox_in w h b) o)
-  carried_nowhere f = carries-none (at w 9) (outbox_in w h b) o k.sound (is b) body f
+  pub carried-none : p ≡ None → false ≡ any (carries_body (at w 9) body) (unacked_of (outbox_in w h b) o)
+  carried-none f = carries-none (at w 9) (outbox_in w h b) o k.sound (is b) body f
 
 -- ---- the handoff that is there
 

@@ -15,7 +15,6 @@ ghost use Rattle.parts.specs.Driven.{Driven};
 ghost use Rattle.link_handoffs.specs.Commands.{Commanding, Enters, Starts, ComesIn, AsksIn, HoldingIn};
 
 use events::Stop;
-use outbox::Place;
 use parts::{Bytes, Halves, LinkAnswer, Words};
 use peer_session::SessionState;
 use restores::Handoff;
@@ -112,10 +111,9 @@ fn carried(words: &Words, halves: &Halves, bytes: &Bytes, outbound: &[u8]) -> bo
         parts::HANDOFF_BODY,
         words[parts::HANDOFF_LEN] as usize,
     );
-    let p = link_outbox::locate(words, halves, words[parts::HANDOFF_NUMBER]);
-    match p {
-        Place::At { start, len } => stores::same_bytes(stores::part(outbound, start, len), held),
-        Place::Nowhere => false,
+    match link_outbox::locate(words, halves, words[parts::HANDOFF_NUMBER]) {
+        Some(place) => stores::same_bytes(stores::part(outbound, place.start, place.len), held),
+        None => false,
     }
 }
 

@@ -404,24 +404,19 @@ pub fn acknowledge(
 
 // ---- a fetch
 
-// Where the body of a number lies.
-pub fn locate(words: &Words, halves: &Halves, number: u64) -> Place
+// Where the body of a number lies, if it is held.
+pub fn locate(words: &Words, halves: &Halves, number: u64) -> Option<Place>
     requires { Bounded halves.now (at words.now 1) }
     ensures { (b : List ℕ) → result ≡ place_u number 0 (used_u (outbox_in words.now halves.now b)) }
 {
     let count = words[parts::UNACKED] as usize;
-    let mut from = 0;
-    let mut i = 0;
-    while i < count {
-        let len = size(halves[parts::UNACKED_LENS + i]);
-        if wide(halves[i]) == number {
-            return Place::At {
-                start: from,
-                len: len,
-            };
+    let mut start = 0;
+    for i in 0..count {
+        let len = halves[parts::UNACKED_LENS + i] as usize;
+        if halves[i] as u64 == number {
+            return Some(Place { start, len });
         }
-        from += len;
-        i += 1;
+        start += len;
     }
-    Place::Nowhere
+    None
 }

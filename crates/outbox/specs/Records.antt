@@ -1,10 +1,9 @@
 -- What the rule book asks of a message and does to it, on its record, whatever its body is. Assumes nothing.
-use Rattle.std.specs.Prelude.{ℕ, ◌+◌, Bool, true, false, not, ◌&&◌, ◌||◌, List, [], ◌∷◌, leb, ltb, eqb, if◌then◌else◌}
+use Rattle.std.specs.Prelude.{ℕ, ◌+◌, Bool, true, false, not, ◌&&◌, ◌||◌, List, [], ◌∷◌, leb, ltb, eqb, if◌then◌else◌, Option, Some, None}
 use Rattle.rules.specs.declared.Answer.{Answer}
 use Rattle.rules.specs.declared.Answer.TheVariants.{Held, NotHeld}
 use Rattle.outbox.specs.declared.Unacked.{Unacked}
 use Rattle.outbox.specs.declared.Place.{Place}
-use Rattle.outbox.specs.declared.Place.TheVariants.{At, Nowhere}
 
 -- ---- tests
 
@@ -33,11 +32,11 @@ sent_u n u = if eqb u.number n then record { number = u.number; len = u.len; pen
 
 -- ---- where the body of a number lies, among records whose bodies start at index at
 
-unfoldable pub place_u : ℕ → ℕ → List Unacked → Place
-place_u n at [] = Nowhere
-place_u n at (u ∷ us) = let t = place_u n (at + u.len) us in if eqb u.number n then At at u.len else t
+unfoldable pub place_u : ℕ → ℕ → List Unacked → Option Place
+place_u n at [] = None
+place_u n at (u ∷ us) = let t = place_u n (at + u.len) us in if eqb u.number n then Some (record { start = at; len = u.len }) else t
 
 -- as the answer to a fetch
-abbrev pub answer_of : Place → Answer
-answer_of (At start n) = Held start n
-answer_of Nowhere = NotHeld
+abbrev pub answer_of : Option Place → Answer
+answer_of (Some p) = Held p.start p.len
+answer_of None = NotHeld

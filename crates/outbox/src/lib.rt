@@ -41,9 +41,9 @@ pub struct Released {
 
 // Where a body lies in the outbound store.
 #[derive(Clone, Copy)]
-pub enum Place {
-    At { start: usize, len: usize },
-    Nowhere,
+pub struct Place {
+    pub start: usize,
+    pub len: usize,
 }
 
 // ---- whether an outbox is one that calls leave
@@ -292,26 +292,18 @@ pub fn mark_sent(o: Outbox, number: u64) -> Outbox
     r
 }
 
-// Where the body of a number lies.
-pub fn locate(o: Outbox, number: u64) -> Place
+// Where the body of a number lies, if it is held.
+pub fn locate(o: Outbox, number: u64) -> Option<Place>
     requires { (o.count ≤ 256) × (end_u o ≤ 65536) }
     ensures { result ≡ place_u number 0 (used_u o) }
 {
-    let count = o.count;
-    let mut at = 0;
-    let mut i = 0;
-    while i < count {
-        let u = o.records[i];
-        let n = u.number as u64;
+    let mut start = 0;
+    for u in &o.records[..o.count] {
         let len = u.len as usize;
-        if n == number {
-            return Place::At {
-                start: at,
-                len: len,
-            };
+        if u.number as u64 == number {
+            return Some(Place { start, len });
         }
-        at += len;
-        i += 1;
+        start += len;
     }
-    Place::Nowhere
+    None
 }

@@ -11,14 +11,14 @@ returns-then-outbound-lt-OUTBOUND_BYTES c = fetched_by c.before.args.number c.be
 pub returns-then-not-sound : goal.returns-then-not-sound
 returns-then-not-sound c = fetched_by c.before.args.number c.before.args.s c.before.args.outbound.now (find_unsound c.before.args.number c.before.args.s c.before.args.outbound.now c.if-outbound-lt-OUTBOUND_BYTES.false (sym c.sound.ensures.is ∙ c.if-not-sound.true)) refl
 
-pub locate-p-requires : goal.locate-p-requires
-locate-p-requires c = let x = (parts c.args.s (sym c.sound.ensures.is ∙ c.if-not-sound.false) c.sound.ensures.full).unacked c.args.outbound.now c.if-outbound-lt-OUTBOUND_BYTES.false in (x.few, x.small)
+pub locate-requires : goal.locate-requires
+locate-requires c = let x = (parts c.args.s (sym c.sound.ensures.is ∙ c.if-not-sound.false) c.sound.ensures.full).unacked c.args.outbound.now c.if-outbound-lt-OUTBOUND_BYTES.false in (x.few, x.small)
 
 pub part-requires : goal.part-requires
-part-requires c = let w = part-fits c.args.number c.args.s.outbox c.args.outbound.now c.locate-p.ensures ((parts c.args.s (sym c.sound.ensures.is ∙ c.if-not-sound.false) c.sound.ensures.full).unacked c.args.outbound.now c.if-outbound-lt-OUTBOUND_BYTES.false) c.in-At.start c.in-At.len c.in-At.is in (w.0, omega (arith, w.1))
+part-requires c = let w = part-fits c.args.number c.args.s.outbox c.args.outbound.now c.locate.ensures ((parts c.args.s (sym c.sound.ensures.is ∙ c.if-not-sound.false) c.sound.ensures.full).unacked c.args.outbound.now c.if-outbound-lt-OUTBOUND_BYTES.false) c.in-Some.place c.in-Some.is in (w.0, omega (arith, w.1))
 
-pub returns-in-At : goal.returns-in-At
-returns-in-At c = fetched_by c.args.number c.args.s c.args.outbound.now (find_sound c.args.number c.args.s c.args.outbound.now c.if-outbound-lt-OUTBOUND_BYTES.false (sym c.sound.ensures.is ∙ c.if-not-sound.false) c.sound.ensures.full c.locate-p.ensures c.in-At.is) c.part.ensures
+pub returns-in-Some : goal.returns-in-Some
+returns-in-Some c = fetched_by c.args.number c.args.s c.args.outbound.now (find_sound c.args.number c.args.s c.args.outbound.now c.if-outbound-lt-OUTBOUND_BYTES.false (sym c.sound.ensures.is ∙ c.if-not-sound.false) c.sound.ensures.full c.locate.ensures c.in-Some.is) c.part.ensures
 
-pub returns-in-Nowhere : goal.returns-in-Nowhere
-returns-in-Nowhere c = fetched_by c.args.number c.args.s c.args.outbound.now (find_sound c.args.number c.args.s c.args.outbound.now c.if-outbound-lt-OUTBOUND_BYTES.false (sym c.sound.ensures.is ∙ c.if-not-sound.false) c.sound.ensures.full c.locate-p.ensures c.in-Nowhere.is) refl
+pub returns-in-None : goal.returns-in-None
+returns-in-None c = fetched_by c.args.number c.args.s c.args.outbound.now (find_sound c.args.number c.args.s c.args.outbound.now c.if-outbound-lt-OUTBOUND_BYTES.false (sym c.sound.ensures.is ∙ c.if-not-sound.false) c.sound.ensures.full c.locate.ensures c.in-None.is) refl

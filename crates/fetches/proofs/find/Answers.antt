@@ -9,11 +9,11 @@ returns-then-outbound-lt-OUTBOUND_BYTES c = find_short c.args.number c.args.s c.
 pub returns-then-not-sound : goal.returns-then-not-sound
 returns-then-not-sound c = find_unsound c.args.number c.args.s c.args.outbound.now c.if-outbound-lt-OUTBOUND_BYTES.false (sym c.sound.ensures.is ∙ c.if-not-sound.true)
 
-pub locate-p-requires : goal.locate-p-requires
-locate-p-requires c = let x = (parts c.args.s (sym c.sound.ensures.is ∙ c.if-not-sound.false) c.sound.ensures.full).unacked c.args.outbound.now c.if-outbound-lt-OUTBOUND_BYTES.false in (x.few, x.small)
+pub locate-requires : goal.locate-requires
+locate-requires c = let x = (parts c.args.s (sym c.sound.ensures.is ∙ c.if-not-sound.false) c.sound.ensures.full).unacked c.args.outbound.now c.if-outbound-lt-OUTBOUND_BYTES.false in (x.few, x.small)
 
-pub returns-in-At : goal.returns-in-At
-returns-in-At c = find_sound c.args.number c.args.s c.args.outbound.now c.if-outbound-lt-OUTBOUND_BYTES.false (sym c.sound.ensures.is ∙ c.if-not-sound.false) c.sound.ensures.full c.locate-p.ensures c.in-At.is
+pub returns-in-Some : goal.returns-in-Some
+returns-in-Some c = find_sound c.args.number c.args.s c.args.outbound.now c.if-outbound-lt-OUTBOUND_BYTES.false (sym c.sound.ensures.is ∙ c.if-not-sound.false) c.sound.ensures.full c.locate.ensures c.in-Some.is
 
-pub returns-in-Nowhere : goal.returns-in-Nowhere
-returns-in-Nowhere c = find_sound c.args.number c.args.s c.args.outbound.now c.if-outbound-lt-OUTBOUND_BYTES.false (sym c.sound.ensures.is ∙ c.if-not-sound.false) c.sound.ensures.full c.locate-p.ensures c.in-Nowhere.is
+pub returns-in-None : goal.returns-in-None
+returns-in-None c = find_sound c.args.number c.args.s c.args.outbound.now c.if-outbound-lt-OUTBOUND_BYTES.false (sym c.sound.ensures.is ∙ c.if-not-sound.false) c.sound.ensures.full c.locate.ensures c.in-None.is

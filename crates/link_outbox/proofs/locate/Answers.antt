@@ -1,40 +1,29 @@
-use mathlib.Core.Path.{refl, sym, ◌∙◌}
-use mathlib.Core.List.{[]}
-use native.Mathlib.Omega.{arith}
-use Rattle.outbox.specs.View.{len_u}
-use Rattle.outbox.proofs.Places.{place_none}
-use Rattle.parts.specs.Seats.{seats}
+use Rattle.std.proofs.Common.{[], arith, refl, ◌∙◌}
 use Rattle.parts.specs.Parts.{at, unacked_at}
-use Rattle.link_outbox.proofs.Sounds.{total-seats, take-total}
-use Rattle.link_outbox.proofs.Places.{found, passed}
+use Rattle.link_outbox.proofs.Sounds.{take-total}
+use Rattle.link_outbox.proofs.Places.{later, found, passed, missing}
 use Rattle.link_outbox.proofs.locate.Goals as goal
 
 pub loop-i-init : goal.loop-i-init
-loop-i-init c = (refl, c.requires, omega arith, λ b. omega (arith, take-total (unacked_at c.args.halves.now b) (at c.args.words.now 1) c.requires.few), λ b. refl)
+loop-i-init c = λ b. (omega (arith, take-total (unacked_at c.args.halves.now b) (at c.args.words.now 1) c.requires.few, c.requires.small b), refl)
 
-pub returns-then-wide-number : goal.returns-then-wide-number
-returns-then-wide-number c = λ b.
-    let l = c.loop-i in
-    let a = c.args in
-    found a.halves.now b l.i (at a.words.now 1) a.number l.from c.loop-i-test.true l.invariant.1.few c.size-len.result c.size-len.ensures (sym c.wide.ensures ∙ c.if-wide-number.true) ∙ l.invariant.4 b
+pub returns-then-halves-i : goal.returns-then-halves-i
+returns-then-halves-i c = λ b.
+    found c.args.halves.now b (at c.args.words.now 1) c.loop-i.i c.args.number c.loop-i.start c.requires.few c.loop-i-test.true c.if-halves-i.true
+    ∙ (c.loop-i.invariant b).1
 
-pub overflow_add-from : goal.overflow_add-from
-overflow_add-from c =
-    let l = c.loop-i in
-    let a = c.args in
-    omega (arith, c.size-len.ensures, l.invariant.3 [], l.invariant.1.small [], total-seats (unacked_at a.halves.now []) l.i (at a.words.now 1) len_u c.loop-i-test.true l.invariant.1.few)
+pub overflow_add-start : goal.overflow_add-start
+overflow_add-start c =
+    omega (arith, later c.args.halves.now [] (at c.args.words.now 1) c.loop-i.i c.args.number c.loop-i.start c.requires.few c.loop-i-test.true, (c.loop-i.invariant []).0)
 
 pub loop-i-preserved : goal.loop-i-preserved
-loop-i-preserved c =
-    let l = c.loop-i in
-    let a = c.args in (
-      refl,
-      l.invariant.1,
-      omega arith,
-      λ b. omega (arith, c.size-len.ensures, l.invariant.3 b, total-seats (unacked_at a.halves.now b) l.i (at a.words.now 1) len_u c.loop-i-test.true l.invariant.1.few),
-      λ b. passed a.halves.now b l.i (at a.words.now 1) a.number l.from c.loop-i-test.true l.invariant.1.few c.size-len.result c.size-len.ensures (λ e. c.if-wide-number.false (c.wide.ensures ∙ e)) ∙ l.invariant.4 b,
-    )
+loop-i-preserved c = λ b. (
+  omega (arith, later c.args.halves.now b (at c.args.words.now 1) c.loop-i.i c.args.number c.loop-i.start c.requires.few c.loop-i-test.true, (c.loop-i.invariant b).0),
+  passed c.args.halves.now b (at c.args.words.now 1) c.loop-i.i c.args.number c.loop-i.start c.requires.few c.loop-i-test.true c.if-halves-i.false
+      ∙ (c.loop-i.invariant b).1,
+)
 
 pub returns : goal.returns
 returns c = λ b.
-    sym (place_none (seats 256 (unacked_at c.args.halves.now b)) c.loop-i.i (at c.args.words.now 1) c.args.number c.loop-i.from c.loop-i-test.false) ∙ c.loop-i.invariant.4 b
+    missing c.args.halves.now b (at c.args.words.now 1) c.loop-i.i c.args.number c.loop-i.start c.requires.few c.loop-i-test.false
+    ∙ (c.loop-i.invariant b).1

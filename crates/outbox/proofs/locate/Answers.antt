@@ -1,33 +1,20 @@
-use native.Mathlib.Omega.{arith}
-use mathlib.Core.Path.{refl, ◌∙◌, sym}
-use Rattle.stores.proofs.Packs.{total-step}
-use Rattle.outbox.specs.View.{len_u, blank_u}
-use Rattle.outbox.proofs.Places.{place_here, place-later, place_none}
+use Rattle.std.proofs.Common.{take, arith, ◌∙◌}
+use Rattle.outbox.proofs.Places.{total-later, place_here, place-later, place_none}
 use Rattle.outbox.proofs.locate.Goals as goal
 
-pub loop-i-init : goal.loop-i-init
-loop-i-init c = (omega arith, omega arith, omega arith, refl)
-
-pub returns-then-n-number : goal.returns-then-n-number
-returns-then-n-number c =
+pub returns-then-u-number : goal.returns-then-u-number
+returns-then-u-number c =
     let o = c.args.o in
-    sym (place_here o.records c.loop-i.i o.count c.args.number c.loop-i.at (omega arith) (omega arith) c.if-n-number.true) ∙ c.loop-i.invariant.3
+    place_here (take o.count o.records) c.loop-u.u-index c.args.number c.loop-u.start c.loop-u-test.true c.if-u-number.true ∙ c.loop-u.invariant.1
 
-pub overflow_add-at : goal.overflow_add-at
-overflow_add-at c =
-    let o = c.args.o in
-    omega (arith, total-step len_u o.records c.loop-i.i o.count blank_u (omega arith) (omega arith))
-
-pub loop-i-preserved : goal.loop-i-preserved
-loop-i-preserved c =
+pub loop-u-preserved : goal.loop-u-preserved
+loop-u-preserved c =
     let o = c.args.o in (
-      omega arith,
-      omega arith,
-      omega (arith, total-step len_u o.records c.loop-i.i o.count blank_u (omega arith) (omega arith)),
-      sym (place-later o.records c.loop-i.i o.count c.args.number c.loop-i.at (omega arith) (omega arith) c.if-n-number.false) ∙ c.loop-i.invariant.3,
+      omega (arith, total-later (take o.count o.records) c.loop-u.u-index c.args.number c.loop-u.start c.loop-u-test.true),
+      place-later (take o.count o.records) c.loop-u.u-index c.args.number c.loop-u.start c.loop-u-test.true c.if-u-number.false ∙ c.loop-u.invariant.1,
     )
 
 pub returns : goal.returns
 returns c =
     let o = c.args.o in
-    sym (place_none o.records c.loop-i.i o.count c.args.number c.loop-i.at c.loop-i-test.false) ∙ c.loop-i.invariant.3
+    place_none (take o.count o.records) c.loop-u.u-index c.args.number c.loop-u.start c.loop-u-test.false ∙ c.loop-u.invariant.1
