@@ -8,28 +8,27 @@ ghost use Rattle.parts.specs.Parts.{parts};
 ghost use Rattle.parts.specs.Driven.{Driven};
 ghost use Rattle.link_replays.specs.Connects.{Ready, Enters};
 
-use events::Stop;
 use parts::{Bytes, Halves, LinkAnswer, Words};
 use peer_session::SessionState;
 use rules::Refusal;
 
 // The tests of an event, in their order.
-fn enters(words: &Words, halves: &Halves, bytes: &Bytes, list: usize, event: u64) -> Stop
+fn enters(words: &Words, halves: &Halves, bytes: &Bytes, list: usize, event: u64) -> Result<(), Refusal>
     ensures { Enters words.now halves.now bytes.now list event result }
 {
     if list < SessionState::EVENT_WORDS {
-        return Stop::By(Refusal::ShortBuffer);
+        return Err(Refusal::ShortBuffer);
     }
     if event < 1 {
-        return Stop::By(Refusal::UnknownCode);
+        return Err(Refusal::UnknownCode);
     }
     if 5 < event {
-        return Stop::By(Refusal::UnknownCode);
+        return Err(Refusal::UnknownCode);
     }
     if !link_sound::sound(words, halves, bytes) {
-        return Stop::By(Refusal::BadRecord);
+        return Err(Refusal::BadRecord);
     }
-    Stop::No
+    Ok(())
 }
 
 // An event past its tests: 1 to 3 do nothing; 4 and 5 send anew what is unacked and not pending, unless that was done a moment ago and is not forced.
@@ -75,7 +74,7 @@ pub fn connectivity(
 {
     let stop = enters(words, halves, bytes, list.len(), event);
     match stop {
-        Stop::By(x) => link_codes::refusal(x),
-        Stop::No => goes(words, halves, bytes, clock, list, event, time, force),
+        Err(x) => link_codes::refusal(x),
+        Ok(()) => goes(words, halves, bytes, clock, list, event, time, force),
     }
 }

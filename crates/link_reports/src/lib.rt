@@ -10,7 +10,6 @@ ghost use Rattle.parts.specs.Driven.{Driven, DrivenTold};
 ghost use Rattle.link_numbers.specs.Sets.{Rising, Set};
 ghost use Rattle.link_reports.specs.Reports.{Enters, Fit, Reported, AckReported};
 
-use events::Stop;
 use parts::{Bytes, Halves, LinkAnswer, Words};
 use peer_session::SessionState;
 use rules::Refusal;
@@ -18,19 +17,19 @@ use rules::Refusal;
 // ---- a report of a send
 
 // The tests of a report, in their order.
-fn report_enters(words: &Words, halves: &Halves, bytes: &Bytes, list: usize, what: u64) -> Stop
+fn report_enters(words: &Words, halves: &Halves, bytes: &Bytes, list: usize, what: u64) -> Result<(), Refusal>
     ensures { Enters words.now halves.now bytes.now list what result }
 {
     if list < SessionState::EVENT_WORDS {
-        return Stop::By(Refusal::ShortBuffer);
+        return Err(Refusal::ShortBuffer);
     }
     if 1 < what {
-        return Stop::By(Refusal::UnknownCode);
+        return Err(Refusal::UnknownCode);
     }
     if !link_sound::sound(words, halves, bytes) {
-        return Stop::By(Refusal::BadRecord);
+        return Err(Refusal::BadRecord);
     }
-    Stop::No
+    Ok(())
 }
 
 // Data was accepted. The handoff's own frame requests a commit, whatever the generation.
@@ -123,8 +122,8 @@ pub fn report(
 {
     let stop = report_enters(words, halves, bytes, list.len(), what);
     match stop {
-        Stop::By(x) => link_codes::refusal(x),
-        Stop::No => reported(words, halves, bytes, list, what, number, accepted),
+        Err(x) => link_codes::refusal(x),
+        Ok(()) => reported(words, halves, bytes, list, what, number, accepted),
     }
 }
 

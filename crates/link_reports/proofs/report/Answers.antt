@@ -4,12 +4,12 @@ use Rattle.link_reports.proofs.report.Goals as goal
 
 pub reported-requires : goal.reported-requires
 reported-requires c =
-    fits c.args.words.now c.args.halves.now c.args.bytes.now _ c.args.what c.report_enters-stop.ensures c.in-No.is
+    fits c.args.words.now c.args.halves.now c.args.bytes.now _ c.args.what c.report_enters-stop.ensures c.in-Ok.is
 
-pub returns-in-By : goal.returns-in-By
-returns-in-By c =
+pub returns-in-Err : goal.returns-in-Err
+returns-in-Err c =
     turned (parts c.args.words.now c.args.halves.now c.args.bytes.now c.args.clock.now) c.args.list.now c.args.what c.args.number c.args.accepted
-    (c.report_enters-stop.ensures c.args.clock.now) c.in-By.is c.refusal.ensures
+    (c.report_enters-stop.ensures c.args.clock.now) c.in-Err.is c.refusal.ensures
 
-pub returns-in-No : goal.returns-in-No
-returns-in-No c = c.reported.ensures c.args.clock.now
+pub returns-in-Ok : goal.returns-in-Ok
+returns-in-Ok c = c.reported.ensures c.args.clock.now
