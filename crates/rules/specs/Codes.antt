@@ -3,8 +3,8 @@ use Rattle.std.specs.Prelude.{ℕ, ◌≡◌, ◌≤◌, ◌<◌, ◌⊎◌, Res
 use Rattle.rules.specs.declared.Refusal.{Refusal}
 use Rattle.rules.specs.declared.Refusal.TheVariants.{UnknownCode}
 use Rattle.rules.specs.declared.ReceiveMode.{ReceiveMode}
-use Rattle.rules.specs.declared.Reported.{Reported}
-use Rattle.rules.specs.declared.Reported.TheVariants as Reports
+use Rattle.rules.specs.declared.FrameKind.{FrameKind}
+use Rattle.rules.specs.declared.FrameKind.TheVariants as Kinds
 use Rattle.rules.specs.declared.Connectivity.{Connectivity}
 use Rattle.rules.specs.declared.Connectivity.TheVariants as Line
 use Rattle.rules.specs.declared.EventCode.{EventCode}
@@ -24,9 +24,9 @@ event_number Codes.SendData = 8
 event_number Codes.SendAck = 9
 event_number Codes.AnswerAck = 10
 
-abbrev pub reported_number : Reported → ℕ
-reported_number Reports.Data = 0
-reported_number Reports.Ack = 1
+abbrev pub frame_kind_number : FrameKind → ℕ
+frame_kind_number Kinds.Data = 0
+frame_kind_number Kinds.Ack = 1
 
 abbrev pub connectivity_number : Connectivity → ℕ
 connectivity_number Line.Disconnected = 1
@@ -37,9 +37,9 @@ connectivity_number Line.PeerAvailable = 5
 
 -- ---- a number that a call takes as a code: one that is in no list is refused
 
-abbrev pub ReadsReported : ℕ → Result Reported Refusal → Type 0
-ReadsReported n (Ok what) = n ≡ reported_number what
-ReadsReported n (Err r) = (r ≡ UnknownCode) × (1 < n)
+abbrev pub ReadsFrameKind : ℕ → Result FrameKind Refusal → Type 0
+ReadsFrameKind n (Ok what) = n ≡ frame_kind_number what
+ReadsFrameKind n (Err r) = (r ≡ UnknownCode) × (1 < n)
 
 abbrev pub ReadsConnectivity : ℕ → Result Connectivity Refusal → Type 0
 ReadsConnectivity n (Ok event) = n ≡ connectivity_number event
