@@ -13,7 +13,7 @@ ghost use Rattle.acks.specs.Reports.{Reports, full_of, MayRetry};
 
 use numbers::Numbers;
 use peer_session::SessionState;
-use rules::{Answer, Clock, ReceiveMode, Refusal};
+use rules::{Answer, Clock, FrameKind, ReceiveMode, Refusal};
 use session::{Returned, Told};
 
 // ---- an ack
@@ -33,13 +33,7 @@ fn list_if(goes: bool, list: &mut [u64], n: usize, code: u64, number: u64) -> us
 pub fn is_raw(mode: ReceiveMode) -> bool
     ensures { result ≡ is_raw mode }
 {
-    match mode {
-        ReceiveMode::Raw => true,
-        ReceiveMode::Proposal => false,
-        ReceiveMode::Channel => false,
-        ReceiveMode::Rejection => false,
-        ReceiveMode::Retiring => false,
-    }
+    mode == ReceiveMode::Raw
 }
 
 // The generation is raised where a message went.
@@ -291,24 +285,21 @@ pub fn report(s: SessionState, list: &mut [u64], what: u64, number: u64, accepte
     if list.len() < SessionState::EVENT_WORDS {
         return session::refused(s, Refusal::ShortBuffer);
     }
-    if 1 < what {
-        return session::refused(s, Refusal::UnknownCode);
-    }
+    let kind = match FrameKind::try_from(what) {
+        Ok(kind) => kind,
+        Err(x) => return session::refused(s, x),
+    };
     if !peer_session::sound(s) {
         return session::refused(s, Refusal::BadRecord);
     }
-    if what == 0 {
-        if accepted {
-            return report_data(s, list, number);
-        }
-        return Returned {
+    match kind {
+        FrameKind::Data if accepted => report_data(s, list, number),
+        FrameKind::Data => Returned {
             session: s,
             answer: Answer::Done,
             events: 0,
-        };
+        },
+        FrameKind::Ack if accepted => ack_sent(s, number),
+        FrameKind::Ack => retry_ack(s, number),
     }
-    if accepted {
-        return ack_sent(s, number);
-    }
-    retry_ack(s, number)
 }

@@ -21,7 +21,7 @@ use Rattle.rules.specs.Calls.{is_ready, step}
 use Rattle.rules.specs.Buffers.{takes, taken_by, wrong_code, queue_end, queue_reach}
 use Rattle.rules.proofs.Lists.{and_left, and_right}
 use Rattle.rules.proofs.Sound.{Sound, parts-sound}
-use Rattle.events.specs.declared.Stop.TheVariants.{No}
+use Rattle.std.specs.Prelude.{None}
 use Rattle.events.specs.Written.{books, ends}
 use Rattle.events.proofs.Laws.{write-none}
 use Rattle.queue.proofs.View.{frames-total}
@@ -177,7 +177,7 @@ module _ (status : HostStatus) (mode : ℕ) (s : SessionState) (l : List ℕ) (d
       (drained status mode S k a.low ∙ ap (λ (p : Progress). answers Done (forgiven (p then drain status))) n)
       (λ us.
       forgiven-final us (stays T then drain status) (books l 0 d 0) (books l' e.events d' c₂.end) e.stop (state_of e.session o' q')
-      (c₂.does us (stays T) (books l 0 d 0) (fresh-books l d) (ap (ends No T) (write-none us (books l 0 d 0)))))
+      (c₂.does us (stays T) (books l 0 d 0) (fresh-books l d) (ap (ends None T) (write-none us (books l 0 d 0)))))
 
 pub exhausted : (status : HostStatus) (mode : ℕ) (s : SessionState) (l : List ℕ) (d o q : Bytes) → 4096 ≤ length l → 49152 ≤ length d → 65536 ≤ length o → 32768 ≤ length q → mode ≤ 4
     → sound_of s ≡ true → Full s → 4294966000 ≤ s.clock.generation → {r : Returned} → Turned s GenerationsExhausted r

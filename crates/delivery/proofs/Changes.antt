@@ -1,5 +1,5 @@
 -- What a proposal and a reject change in a turn. Assumes nothing.
-use Rattle.std.specs.Prelude.{if◌then◌else◌}
+use Rattle.std.specs.Prelude.{if◌then◌else◌, None, Some}
 use mathlib.Core.Path.{◌≡◌, refl, sym, ap, ◌∙◌}
 use mathlib.Core.Bool.{Bool, true, false, not, ◌&&◌, ◌||◌, true≢false}
 use mathlib.Core.List.{List, [], ◌∷◌, ◌++◌}
@@ -17,7 +17,6 @@ use Rattle.rules.specs.Clock.{raised}
 use Rattle.rules.specs.Progress.{stays, halts}
 use Rattle.rules.specs.Sending.{exhausted, no_room, fresh, numbered, allocate}
 use Rattle.rules.specs.Setup.{reject_session, receive_proposal, discard_outbound}
-use Rattle.events.specs.declared.Stop.TheVariants.{No, By}
 use Rattle.delivery.specs.declared.Turn.{Turn}
 use Rattle.delivery.specs.Turns.{acted, after_sending, during, Under}
 use Rattle.delivery.specs.Acts.{Proposes, Rejects}
@@ -119,7 +118,7 @@ module _ (t : Turn) where
   under-other : (d : ℕ) → (d ≡ 4 → ⊥) → (s : R.State) → Under s t → Under s (acting t t.clock d t.unacked t.sent t.dropped)
   under-other d h s u = record { mode = u.mode; failed = u.failed; next = u.next; unacked = u.unacked; alone = u.alone; inbound = λ e. h; reject = u.reject }
 
-  pub proposal_other : (t.disposition ≡ 4 → ⊥) → Proposes t (record { turn = acting t t.clock 2 t.unacked t.sent t.dropped; stop = No })
+  pub proposal_other : (t.disposition ≡ 4 → ⊥) → Proposes t (record { turn = acting t t.clock 2 t.unacked t.sent t.dropped; stop = None })
   proposal_other h =
       record {
         does = λ s fs ws u. propose_other (during s fs ws t) (ne_eqb t.disposition 4 h);
@@ -157,7 +156,7 @@ module _ (t : Turn) where
       }
 
   module _ (h : t.disposition ≡ 4) where
-    pub proposal_stands : t.unacked ≡ true → Proposes t (record { turn = t; stop = No })
+    pub proposal_stands : t.unacked ≡ true → Proposes t (record { turn = t; stop = None })
     proposal_stands e =
         record {
           does = λ s fs ws u. propose_by (during s fs ws t) false (eq-eqb t.disposition 4 h) (not-true _ (sym e ∙ u.unacked));
@@ -177,7 +176,7 @@ module _ (t : Turn) where
       number : (s : R.State) → Under s t → after_sending t.sent s.outbox.next ≡ t.next
       number s u = ap (λ (b : Bool). after_sending b s.outbox.next) (still s u).sent_not ∙ sym u.next
 
-      pub proposal_spent : 4294967295 < t.next → Proposes t (record { turn = t; stop = By NumbersExhausted })
+      pub proposal_spent : 4294967295 < t.next → Proposes t (record { turn = t; stop = Some NumbersExhausted })
       proposal_spent k =
           record {
             does = λ s fs ws u.
@@ -187,7 +186,7 @@ module _ (t : Turn) where
             slow = omega arith;
           }
 
-      pub proposal_again : t.next ≤ 4294967295 → Proposes t (record { turn = acting t (raised-clock t.clock) t.disposition true true t.dropped; stop = No })
+      pub proposal_again : t.next ≤ 4294967295 → Proposes t (record { turn = acting t (raised-clock t.clock) t.disposition true true t.dropped; stop = None })
       unfolding numbered
       proposal_again k =
           record {

@@ -14,8 +14,7 @@ use Rattle.rules.specs.State.{frame_number, frame_size, is_frame}
 use Rattle.rules.specs.Sound.{at_most}
 use Rattle.rules.specs.Progress.{Progress, stays, ◌then◌}
 use Rattle.rules.specs.Receiving.{other_than, deliver, next_frame, drains, drain}
-use Rattle.events.specs.declared.Stop.{Stop}
-use Rattle.events.specs.declared.Stop.TheVariants.{No, By}
+use Rattle.std.specs.Prelude.{Option, None, Some}
 use Rattle.events.specs.Written.{Books, books, Within, final, ends}
 use Rattle.events.proofs.Laws.{write-none, then_goes, then_stops}
 use Rattle.numbers.specs.declared.Numbers.{Numbers}
@@ -71,7 +70,7 @@ turns_none status t w x i q b a d e =
       left = λ s us u. ap (λ (k : ℕ). final us (drains k status (during s (drop i (frames_of x q)) (in_use w) t)) b) (sym n);
     }
 
-abbrev drained : Turn → Numbers → ℕ → Books → Stop → Drained
+abbrev drained : Turn → Numbers → ℕ → Books → Option Refusal → Drained
 drained t w i b z = drained_by t w i b.n b.at z
 
 pub drains_as : {status : HostStatus} {t : Turn} {w : Numbers} {x : Queue} {i : ℕ} {q : Bytes} {b : Books} {r r' : Drained} {l' : List ℕ} {d' : Bytes} → r ≡ r'
@@ -90,11 +89,11 @@ module _ {status : HostStatus} {t₀ : Turn} {w₀ : Numbers} {x : Queue} {i₀ 
   turns_within = record { listed = omega (arith, v.few, v.list, v.pre.room); filled = omega (arith, v.short, v.delivery, v.pre.bytes) }
 
   -- the loop is left with the turn as it is
-  out : ((s : R.State) → Under s t → (k : ℕ) → drains k status (st s) ≡ stays (st s)) → Drains status t₀ w₀ x i₀ q b₀ (drained t w i b No) b.list b.delivery
+  out : ((s : R.State) → Under s t → (k : ℕ) → drains k status (st s) ≡ stays (st s)) → Drains status t₀ w₀ x i₀ q b₀ (drained t w i b None) b.list b.delivery
   out h =
       record {
         does = λ s us u.
-            sym (v.left s us u) ∙ ap (λ (p : Progress). final us p b) (h s (v.under s u) (x.count - i)) ∙ ap (ends No (st s)) (write-none us b);
+            sym (v.left s us u) ∙ ap (λ (p : Progress). final us p b) (h s (v.under s u) (x.count - i)) ∙ ap (ends None (st s)) (write-none us b);
         under = v.under;
         waits = v.waits;
         within = v.within;
@@ -103,13 +102,13 @@ module _ {status : HostStatus} {t₀ : Turn} {w₀ : Numbers} {x : Queue} {i₀ 
         short = omega (arith, v.short);
       }
 
-  pub out_empty : x.count ≤ i → Drains status t₀ w₀ x i₀ q b₀ (drained t w i b No) b.list b.delivery
+  pub out_empty : x.count ≤ i → Drains status t₀ w₀ x i₀ q b₀ (drained t w i b None) b.list b.delivery
   out_empty h =
       let n : length (frames_of x q) ≤ i = omega (arith, frames-length x q v.pre.exact) in
       out (λ s u. turn-none status (st s) (first-nothing (t.remote + 1) (drop i (frames_of x q)) (drop_of_length-le (frames_of x q) n)))
 
   pub out_unavailable : (r : Bool) → Available status t r → r ≡ false
-      → Drains status t₀ w₀ x i₀ q b₀ (drained t w i b No) b.list b.delivery
+      → Drains status t₀ w₀ x i₀ q b₀ (drained t w i b None) b.list b.delivery
   out_unavailable r g e = out (λ s u. turn_off status (st s) (sym (g s fs (in_use w) u) ∙ e))
 
   module _ (h : i < x.count) where
@@ -149,7 +148,7 @@ module _ {status : HostStatus} {t₀ : Turn} {w₀ : Numbers} {x : Queue} {i₀ 
         }
 
     pub out_later : ((queue_record_at x i).number ≡ t.remote + 1 → ⊥)
-        → Drains status t₀ w₀ x i₀ q b₀ (drained t w i b No) b.list b.delivery
+        → Drains status t₀ w₀ x i₀ q b₀ (drained t w i b None) b.list b.delivery
     out_later ne = out (λ s y. turn-none status (st s) (ap (first (is_frame (t.remote + 1))) step ∙ next-none t.remote f rest rises ne))
 
     module _ (is : (queue_record_at x i).number ≡ t.remote + 1) where
@@ -157,7 +156,7 @@ module _ {status : HostStatus} {t₀ : Turn} {w₀ : Numbers} {x : Queue} {i₀ 
       found s = ap (first (is_frame (t.remote + 1))) step ∙ next_some t.remote f rest rises is
 
       pub out_undeliverable : (r : Bool) → Deliverable (queue_record_at x i).number (queue_record_at x i).kind t r → r ≡ false
-          → Drains status t₀ w₀ x i₀ q b₀ (drained t w i b No) b.list b.delivery
+          → Drains status t₀ w₀ x i₀ q b₀ (drained t w i b None) b.list b.delivery
       out_undeliverable r g e = out (λ s y. turn_not status (st s) f (found s) (sym (g f.body s fs (in_use w) y) ∙ e))
 
       -- a delivery
@@ -179,8 +178,8 @@ module _ {status : HostStatus} {t₀ : Turn} {w₀ : Numbers} {x : Queue} {i₀ 
         body : length (frame_at x i a q).body ≡ (queue_record_at x i).len
         body = body-size x q v.pre.exact i a v.start h
 
-        pub out_refused : (z : Refusal) → r.stop ≡ By z
-            → Drains status t₀ w₀ x i₀ q b₀ (drained r.turn w i (books l' r.events d' r.at) (By z)) l' d'
+        pub out_refused : (z : Refusal) → r.stop ≡ Some z
+            → Drains status t₀ w₀ x i₀ q b₀ (drained r.turn w i (books l' r.events d' r.at) (Some z)) l' d'
         out_refused z e =
             record {
               does = λ s us y.
@@ -189,7 +188,7 @@ module _ {status : HostStatus} {t₀ : Turn} {w₀ : Numbers} {x : Queue} {i₀ 
                   ∙ ap (λ (p : Progress). final us p b) (turn s (v.under s y) (x.count - (i + 1)))
                   ∙ then_stops us (deliver f (st s)) (drains (x.count - (i + 1)) status) b b' z (during s fs (in_use w) r.turn)
                   (g.does s fs (in_use w) us (v.under s y)
-                  ∙ ap (λ (y : Stop). ends y (during s (left_by y f.number fs) (acked_by y f.number (in_use w)) r.turn) b') e);
+                  ∙ ap (λ (y : Option Refusal). ends y (during s (left_by y f.number fs) (acked_by y f.number (in_use w)) r.turn) b') e);
               under = λ s y. g.under s (v.under s y);
               waits = v.waits;
               within = v.within;
@@ -202,18 +201,18 @@ module _ {status : HostStatus} {t₀ : Turn} {w₀ : Numbers} {x : Queue} {i₀ 
         put_is : put itself f.number (in_use w) ≡ in_use w'
         put_is = put_more w v.waits has_room t.remote (queue_record_at x i).number (omega arith) v.behind
 
-        goes_on : (s : R.State) (us : List R.Unacked) (k : ℕ) → Under s t → r.stop ≡ No
+        goes_on : (s : R.State) (us : List R.Unacked) (k : ℕ) → Under s t → r.stop ≡ None
             → final us (drains (suc k) status (st s)) b ≡ final us (drains k status (during s rest (in_use w') r.turn)) b'
         goes_on s us k y e =
             ap (λ (p : Progress). final us p b) (turn s y k)
             ∙ then_goes us (deliver f (st s)) (drains k status) b b' (during s rest (in_use w') r.turn) turns_within
             (g.does s fs (in_use w) us y
-            ∙ ap (λ (y : Stop). ends y (during s (left_by y f.number fs) (acked_by y f.number (in_use w)) r.turn) b') e
-            ∙ ap (λ (l : List R.Frame). ends No (during s l (put itself f.number (in_use w)) r.turn) b')
+            ∙ ap (λ (y : Option Refusal). ends y (during s (left_by y f.number fs) (acked_by y f.number (in_use w)) r.turn) b') e
+            ∙ ap (λ (l : List R.Frame). ends None (during s l (put itself f.number (in_use w)) r.turn) b')
             (ap (kept (other_than f.number)) step ∙ kept-head t.remote f rest rises)
-            ∙ ap (λ (l : List ℕ). ends No (during s rest l r.turn) b') put_is)
+            ∙ ap (λ (l : List ℕ). ends None (during s rest l r.turn) b') put_is)
 
-        pub turns_more : r.stop ≡ No → length l' ≡ length b.list → length d' ≡ length b.delivery
+        pub turns_more : r.stop ≡ None → length l' ≡ length b.list → length d' ≡ length b.delivery
             → Turns status t₀ w₀ x i₀ q b₀ r.turn (with_last (queue_record_at x i).number w) (i + 1)
             (a + (queue_record_at x i).len) (books l' r.events d' r.at)
         turns_more e ll ld =

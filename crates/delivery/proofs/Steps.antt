@@ -15,8 +15,7 @@ use Rattle.rules.specs.Progress.{Progress, stays, halts, ◌then◌, request}
 use Rattle.rules.specs.Setup.{receive_proposal}
 use Rattle.rules.specs.Receiving.{delivered, hand_over, consume, confirm, deliver}
 use Rattle.rules.proofs.Progress.{listing_none}
-use Rattle.events.specs.declared.Stop.{Stop}
-use Rattle.events.specs.declared.Stop.TheVariants.{No, By}
+use Rattle.std.specs.Prelude.{Option, None, Some}
 use Rattle.events.specs.Written.{Listed, asked, Books, books, Within, final, ends, ended}
 use Rattle.events.proofs.Laws.{write-none, then_goes, then_stops}
 use Rattle.delivery.specs.declared.Turn.{Turn}
@@ -26,7 +25,7 @@ use Rattle.delivery.specs.Turns.{during, Under, Ready, Consumed, Delivered, left
 use Rattle.delivery.specs.Acts.{HandedOver, Proposes, Rejects, Did, rejected, taken, answered}
 use Rattle.delivery.proofs.Written.{write-message, write-asked, few-asked}
 
-abbrev stepping : Turn → ℕ → ℕ → Stop → Step
+abbrev stepping : Turn → ℕ → ℕ → Option Refusal → Step
 stepping t n at x = record { turn = t; events = n; at = at; stop = x }
 
 pub ready-within : {t : Turn} {len : ℕ} (l : List ℕ) (n : ℕ) (d : Bytes) (at : ℕ) → Ready t len (length l) n (length d) at → Within (books l n d at)
@@ -35,10 +34,10 @@ ready-within l n d at r = record { listed = omega (arith, r.room); filled = omeg
 -- ---- steps that leave the turn as it is
 
 module _ (t : Turn) (b : Books) where
-  pub did_stays : (len : ℕ) → Did (λ s. stays s) len t b (stepping t b.n b.at No) b.list b.delivery
+  pub did_stays : (len : ℕ) → Did (λ s. stays s) len t b (stepping t b.n b.at None) b.list b.delivery
   did_stays len =
       record {
-        does = λ s fs ws us u. ap (ends No (during s fs ws t)) (write-none us b);
+        does = λ s fs ws us u. ap (ends None (during s fs ws t)) (write-none us b);
         under = λ s u. u;
         remote = refl;
         slow = omega arith;
@@ -46,10 +45,10 @@ module _ (t : Turn) (b : Books) where
         short = omega arith;
       }
 
-  pub did_halts : (x : Refusal) (len : ℕ) → Did (λ s. halts x s) len t b (stepping t b.n b.at (By x)) b.list b.delivery
+  pub did_halts : (x : Refusal) (len : ℕ) → Did (λ s. halts x s) len t b (stepping t b.n b.at (Some x)) b.list b.delivery
   did_halts x len =
       record {
-        does = λ s fs ws us u. ap (ends (By x) (during s fs ws t)) (write-none us b);
+        does = λ s fs ws us u. ap (ends (Some x) (during s fs ws t)) (write-none us b);
         under = λ s u. u;
         remote = refl;
         slow = omega arith;
@@ -58,10 +57,10 @@ module _ (t : Turn) (b : Books) where
       }
 
   pub did_message : (f : R.Frame) (l' : List ℕ) (d' : Bytes) → HandedOver f.number f.body b.list b.n b.delivery b.at l' d'
-      → Did (hand_over f) (length f.body) t b (stepping t (b.n + 1) (b.at + length f.body) No) l' d'
+      → Did (hand_over f) (length f.body) t b (stepping t (b.n + 1) (b.at + length f.body) None) l' d'
   did_message f l' d' h =
       record {
-        does = λ s fs ws us u. ap (ends No (during s fs ws t)) (write-message f.number f.body b l' d' h us);
+        does = λ s fs ws us u. ap (ends None (during s fs ws t)) (write-message f.number f.body b l' d' h us);
         under = λ s u. u;
         remote = refl;
         slow = omega arith;
@@ -69,11 +68,11 @@ module _ (t : Turn) (b : Books) where
         short = omega arith;
       }
 
-  pub did_request : (len : ℕ) (l' : List ℕ) (k : ℕ) → Listed (asked t.clock) b.list b.n l' k → Did request len t b (stepping t k b.at No) l' b.delivery
+  pub did_request : (len : ℕ) (l' : List ℕ) (k : ℕ) → Listed (asked t.clock) b.list b.n l' k → Did request len t b (stepping t k b.at None) l' b.delivery
   unfolding request
   did_request len l' k h =
       record {
-        does = λ s fs ws us u. ap (ends No (during s fs ws t)) (write-asked t.clock b l' k h us);
+        does = λ s fs ws us u. ap (ends None (during s fs ws t)) (write-asked t.clock b l' k h us);
         under = λ s u. u;
         remote = refl;
         slow = omega arith;
@@ -85,12 +84,12 @@ module _ (t : Turn) (b : Books) where
 
 module _ (t : Turn) (b : Books) (len : ℕ) where
   module _ (a : Proposed) (p : Proposes t a) where
-    pub proposal_then : (g : R.State → Progress) → a.stop ≡ No → (n at : ℕ) (l' : List ℕ) (d' : Bytes)
-        → Did g len a.turn b (stepping a.turn n at No) l' d' → Did (λ s. receive_proposal s then g) len t b (stepping a.turn n at No) l' d'
+    pub proposal_then : (g : R.State → Progress) → a.stop ≡ None → (n at : ℕ) (l' : List ℕ) (d' : Bytes)
+        → Did g len a.turn b (stepping a.turn n at None) l' d' → Did (λ s. receive_proposal s then g) len t b (stepping a.turn n at None) l' d'
     proposal_then g e n at l' d' h =
         record {
           does = λ s fs ws us u.
-              ap (λ (q : Progress). final us (q then g) b) (p.does s fs ws u ∙ ap (λ (x : Stop). ended x (during s fs ws a.turn)) e)
+              ap (λ (q : Progress). final us (q then g) b) (p.does s fs ws u ∙ ap (λ (x : Option Refusal). ended x (during s fs ws a.turn)) e)
               ∙ ap (λ (q : Progress). final us q b) (listing_none (g (during s fs ws a.turn)))
               ∙ h.does s fs ws us (p.under s u);
           under = p.under;
@@ -100,13 +99,13 @@ module _ (t : Turn) (b : Books) (len : ℕ) where
           short = h.short;
         }
 
-    pub proposal_refused : (g : R.State → Progress) (x : Refusal) → a.stop ≡ By x
-        → Did (λ s. receive_proposal s then g) len t b (stepping a.turn b.n b.at (By x)) b.list b.delivery
+    pub proposal_refused : (g : R.State → Progress) (x : Refusal) → a.stop ≡ Some x
+        → Did (λ s. receive_proposal s then g) len t b (stepping a.turn b.n b.at (Some x)) b.list b.delivery
     proposal_refused g x e =
         record {
           does = λ s fs ws us u.
-              ap (λ (q : Progress). final us (q then g) b) (p.does s fs ws u ∙ ap (λ (x : Stop). ended x (during s fs ws a.turn)) e)
-              ∙ ap (ends (By x) (during s fs ws a.turn)) (write-none us b);
+              ap (λ (q : Progress). final us (q then g) b) (p.does s fs ws u ∙ ap (λ (x : Option Refusal). ended x (during s fs ws a.turn)) e)
+              ∙ ap (ends (Some x) (during s fs ws a.turn)) (write-none us b);
           under = p.under;
           remote = p.remote;
           slow = p.slow;
@@ -114,8 +113,8 @@ module _ (t : Turn) (b : Books) (len : ℕ) where
           short = omega arith;
         }
 
-  pub reject_then : (r : Turn) → Rejects t r → (n at : ℕ) (l' : List ℕ) (d' : Bytes) → Did request len r b (stepping r n at No) l' d'
-      → Did rejected len t b (stepping r n at No) l' d'
+  pub reject_then : (r : Turn) → Rejects t r → (n at : ℕ) (l' : List ℕ) (d' : Bytes) → Did request len r b (stepping r n at None) l' d'
+      → Did rejected len t b (stepping r n at None) l' d'
   reject_then r p n at l' d' h =
       record {
         does = λ s fs ws us u.
@@ -217,13 +216,13 @@ module _ (f : R.Frame) (t : Turn) (b : Books) (w : Within b) (a : Step) (l' : Li
   abbrev after : Books
   after = books l' a.events d' a.at
 
-  pub deliver-stops : (x : Refusal) → a.stop ≡ By x → Delivered f t b (stepping a.turn a.events a.at (By x)) l' d'
+  pub deliver-stops : (x : Refusal) → a.stop ≡ Some x → Delivered f t b (stepping a.turn a.events a.at (Some x)) l' d'
   unfolding deliver
   deliver-stops x e =
       record {
         does = λ s fs ws us u.
             then_stops us (consume s.stage.mode f (during s fs ws t)) (confirm f.number) b after x (during s fs ws a.turn)
-            (c.does s fs ws us u ∙ ap (λ (y : Stop). ends y (during s fs ws a.turn) after) e);
+            (c.does s fs ws us u ∙ ap (λ (y : Option Refusal). ends y (during s fs ws a.turn) after) e);
         under = c.under;
         remote = λ z. let y : ◌≡◌ {A = ℕ} 0 1 = cc in absurd (omega arith);
         slow = omega (arith, c.slow);
@@ -231,15 +230,15 @@ module _ (f : R.Frame) (t : Turn) (b : Books) (w : Within b) (a : Step) (l' : Li
         short = c.short;
       }
 
-  pub deliver-goes : a.stop ≡ No → (l'' : List ℕ) (k : ℕ) → Listed (asked (confirmed f.number a.turn).clock) l' a.events l'' k
-      → Delivered f t b (stepping (confirmed f.number a.turn) k a.at No) l'' d'
+  pub deliver-goes : a.stop ≡ None → (l'' : List ℕ) (k : ℕ) → Listed (asked (confirmed f.number a.turn).clock) l' a.events l'' k
+      → Delivered f t b (stepping (confirmed f.number a.turn) k a.at None) l'' d'
   unfolding deliver request delivered
   deliver-goes e l'' k h =
       record {
         does = λ s fs ws us u.
             then_goes us (consume s.stage.mode f (during s fs ws t)) (confirm f.number) b after (during s fs ws a.turn) w
-            (c.does s fs ws us u ∙ ap (λ (y : Stop). ends y (during s fs ws a.turn) after) e)
-            ∙ ap (ends No (during s (left_by No f.number fs) (acked_by No f.number ws) (confirmed f.number a.turn)))
+            (c.does s fs ws us u ∙ ap (λ (y : Option Refusal). ends y (during s fs ws a.turn) after) e)
+            ∙ ap (ends None (during s (left_by None f.number fs) (acked_by None f.number ws) (confirmed f.number a.turn)))
             (write-asked (confirmed f.number a.turn).clock after l'' k h us);
         under = λ s u. under_confirmed f.number a.turn s (c.under s u);
         remote = λ z. refl;

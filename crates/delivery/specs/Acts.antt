@@ -1,5 +1,5 @@
 -- The contracts of what a delivery is made of. Assumes nothing.
-use Rattle.std.specs.Prelude.{ℕ, ◌+◌, ◌*◌, ◌≤◌, ◌≡◌, Bool, List, [], ◌∷◌}
+use Rattle.std.specs.Prelude.{ℕ, ◌+◌, ◌*◌, ◌≤◌, ◌≡◌, Bool, List, [], ◌∷◌, Option}
 use Rattle.stores.specs.Placed.{placed}
 use Rattle.rules.specs.declared.HostStatus.{HostStatus}
 use Rattle.rules.specs.declared.ReceiveMode.{ReceiveMode}
@@ -11,7 +11,7 @@ use Rattle.rules.specs.Buffers.{flat}
 use Rattle.rules.specs.Setup.{receive_proposal, reject_inbound}
 use Rattle.rules.specs.Receiving.{available, deliverable, hand_over}
 use Rattle.numbers.specs.declared.Numbers.{Numbers}
-use Rattle.events.specs.declared.Stop.{Stop}
+use Rattle.rules.specs.declared.Refusal.{Refusal}
 use Rattle.events.specs.Written.{Books, books, final, ends, ended}
 use Rattle.delivery.specs.declared.Turn.{Turn}
 use Rattle.delivery.specs.declared.Step.{Step}
@@ -82,5 +82,5 @@ Deliverable n k t r = (b : Bytes) → Answers (deliverable (frame_of n k b)) t r
 
 -- ---- a drain that is done
 
-abbrev pub drained_by : Turn → Numbers → ℕ → ℕ → ℕ → Stop → Drained
+abbrev pub drained_by : Turn → Numbers → ℕ → ℕ → ℕ → Option Refusal → Drained
 drained_by t w i n at z = record { turn = t; waiting = w; taken = i; events = n; at = at; stop = z }

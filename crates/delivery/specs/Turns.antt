@@ -1,5 +1,5 @@
 -- A call under way that delivers: the state that a turn stands for. Assumes nothing.
-use Rattle.std.specs.Prelude.{ℕ, ◌+◌, ◌-◌, ◌*◌, ◌≤◌, ◌≡◌, Bool, true, false, not, List, [], ◌∷◌, ◌++◌, length, drop}
+use Rattle.std.specs.Prelude.{ℕ, ◌+◌, ◌-◌, ◌*◌, ◌≤◌, ◌≡◌, Bool, true, false, not, List, [], ◌∷◌, ◌++◌, length, drop, Option, None, Some}
 use Rattle.rules.specs.declared.HostStatus.{HostStatus}
 use Rattle.rules.specs.Lists.{Bytes, empty, kept, all, total, put, rising, itself}
 use Rattle.rules.specs.State as R
@@ -7,8 +7,7 @@ use Rattle.rules.specs.State.{frame_number, frame_size}
 use Rattle.rules.specs.Sending.{fresh}
 use Rattle.rules.specs.Receiving.{up_to, other_than, consume, deliver, drain}
 use Rattle.rules.specs.Sound.{at_most}
-use Rattle.events.specs.declared.Stop.{Stop}
-use Rattle.events.specs.declared.Stop.TheVariants.{No, By}
+use Rattle.rules.specs.declared.Refusal.{Refusal}
 use Rattle.events.specs.Written.{Books, books, final, ends}
 use Rattle.numbers.specs.declared.Numbers.{Numbers}
 use Rattle.numbers.specs.Seats.{in_use, ExactNumbers}
@@ -90,20 +89,20 @@ pub record Consumed (f : R.Frame) (t : Turn) (b : Books) (r : Step) (l' : List �
   pub short : r.at ≤ b.at + length f.body
 
 -- what a delivery leaves of the queue and of the acks that wait: one that was refused took nothing and added none
-abbrev pub left_by : Stop → ℕ → List R.Frame → List R.Frame
-left_by No n fs = kept (other_than n) fs
-left_by (By r) n fs = fs
+abbrev pub left_by : Option Refusal → ℕ → List R.Frame → List R.Frame
+left_by None n fs = kept (other_than n) fs
+left_by (Some r) n fs = fs
 
-abbrev pub acked_by : Stop → ℕ → List ℕ → List ℕ
-acked_by No n ws = put itself n ws
-acked_by (By r) n ws = ws
+abbrev pub acked_by : Option Refusal → ℕ → List ℕ → List ℕ
+acked_by None n ws = put itself n ws
+acked_by (Some r) n ws = ws
 
 pub record Delivered (f : R.Frame) (t : Turn) (b : Books) (r : Step) (l' : List ℕ) (d' : Bytes) : Type 0 where
   pub does : (s : R.State) (fs : List R.Frame) (ws : List ℕ) (us : List R.Unacked) → Under s t
       → final us (deliver f (during s fs ws t)) b
       ≡ ends r.stop (during s (left_by r.stop f.number fs) (acked_by r.stop f.number ws) r.turn) (books l' r.events d' r.at)
   pub under : (s : R.State) → Under s t → Under s r.turn
-  pub remote : r.stop ≡ No → r.turn.remote ≡ f.number
+  pub remote : r.stop ≡ None → r.turn.remote ≡ f.number
   pub slow : r.turn.clock.generation ≤ t.clock.generation + 2
   pub few : r.events ≤ b.n + 2
   pub short : r.at ≤ b.at + length f.body

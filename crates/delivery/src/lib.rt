@@ -9,7 +9,6 @@ ghost use Rattle.queue.specs.View.{frame};
 ghost use Rattle.delivery.specs.Turns.{frame_of, Ready, Consumed, Delivered, Draining, Drains};
 ghost use Rattle.delivery.specs.Acts.{HandedOver, Proposes, Rejects, Did, rejected, taken, answered, ReadyIn, Available, Deliverable, drained_by};
 
-use events::Stop;
 use numbers::Numbers;
 use queue::{Queue, Queued};
 use rules::{Clock, HostStatus, ReceiveMode, Refusal};
@@ -36,7 +35,7 @@ pub struct Turn {
 #[derive(Clone, Copy)]
 pub struct Proposed {
     pub turn: Turn,
-    pub stop: Stop,
+    pub stop: Option<Refusal>,
 }
 
 // A turn with the count of events, the first free byte of the delivery buffer, and the refusal that ended it.
@@ -45,7 +44,7 @@ pub struct Step {
     pub turn: Turn,
     pub events: usize,
     pub at: usize,
-    pub stop: Stop,
+    pub stop: Option<Refusal>,
 }
 
 // A step at the end of a drain, with the acks that wait and how many frames were taken from the front of the queue.
@@ -56,7 +55,7 @@ pub struct Drained {
     pub taken: usize,
     pub events: usize,
     pub at: usize,
-    pub stop: Stop,
+    pub stop: Option<Refusal>,
 }
 
 // ---- what a message does
@@ -80,19 +79,19 @@ fn receive_proposal(t: Turn) -> Proposed
         r.disposition = 2;
         return Proposed {
             turn: r,
-            stop: Stop::No,
+            stop: None,
         };
     }
     if t.unacked {
         return Proposed {
             turn: t,
-            stop: Stop::No,
+            stop: None,
         };
     }
     if rules::LAST_MESSAGE < t.next {
         return Proposed {
             turn: t,
-            stop: Stop::By(Refusal::NumbersExhausted),
+            stop: Some(Refusal::NumbersExhausted),
         };
     }
     let mut c = t.clock;
@@ -102,7 +101,7 @@ fn receive_proposal(t: Turn) -> Proposed
     r.sent = true;
     Proposed {
         turn: r,
-        stop: Stop::No,
+        stop: None,
     }
 }
 
@@ -137,7 +136,7 @@ fn take_reject(t: Turn, list: &mut [u64], n: usize, delivery: &mut [u8], at: usi
         turn: r,
         events: m,
         at: at,
-        stop: Stop::No,
+        stop: None,
     }
 }
 
@@ -158,20 +157,20 @@ fn take_proposal(
     let r = a.turn;
     let stop = a.stop;
     match stop {
-        Stop::No => {
+        None => {
             hand_over(list, n, delivery, at, number, body);
             Step {
                 turn: r,
                 events: n + 1,
                 at: at + body.len(),
-                stop: Stop::No,
+                stop: None,
             }
         }
-        Stop::By(x) => Step {
+        Some(x) => Step {
             turn: r,
             events: n,
             at: at,
-            stop: Stop::By(x),
+            stop: Some(x),
         },
     }
 }
@@ -184,21 +183,21 @@ fn answer_proposal(t: Turn, list: &mut [u64], n: usize, delivery: &mut [u8], at:
     let r = a.turn;
     let stop = a.stop;
     match stop {
-        Stop::No => {
+        None => {
             let c = r.clock;
             let m = events::request(c, list, n);
             Step {
                 turn: r,
                 events: m,
                 at: at,
-                stop: Stop::No,
+                stop: None,
             }
         }
-        Stop::By(x) => Step {
+        Some(x) => Step {
             turn: r,
             events: n,
             at: at,
-            stop: Stop::By(x),
+            stop: Some(x),
         },
     }
 }
@@ -229,7 +228,7 @@ fn consume_proposal(
         turn: t,
         events: n,
         at: at,
-        stop: Stop::By(Refusal::NotAProposal),
+        stop: Some(Refusal::NotAProposal),
     }
 }
 
@@ -256,7 +255,7 @@ fn consume_rejection(
         turn: t,
         events: n,
         at: at,
-        stop: Stop::No,
+        stop: None,
     }
 }
 
@@ -277,7 +276,7 @@ fn consume(
         turn: t,
         events: n,
         at: at,
-        stop: Stop::No,
+        stop: None,
     };
     let mode = t.mode;
     match mode {
@@ -287,7 +286,7 @@ fn consume(
                 turn: t,
                 events: n + 1,
                 at: at + body.len(),
-                stop: Stop::No,
+                stop: None,
             }
         }
         ReceiveMode::Proposal => consume_proposal(t, list, n, delivery, at, number, kind, body),
@@ -316,7 +315,7 @@ pub fn deliver(
     let m = a.events;
     let stop = a.stop;
     match stop {
-        Stop::No => {
+        None => {
             let mut c = r.clock;
             c.generation += 1;
             r.clock = c;
@@ -326,14 +325,14 @@ pub fn deliver(
                 turn: r,
                 events: k,
                 at: a.at,
-                stop: Stop::No,
+                stop: None,
             }
         }
-        Stop::By(x) => Step {
+        Some(x) => Step {
             turn: r,
             events: m,
             at: a.at,
-            stop: Stop::By(x),
+            stop: Some(x),
         },
     }
 }
@@ -409,7 +408,7 @@ fn deliver_queued(
 }
 
 // The loop is left, at the frame that is not taken.
-fn leave(s: Step, waiting: Numbers, taken: usize, stop: Stop) -> Drained
+fn leave(s: Step, waiting: Numbers, taken: usize, stop: Option<Refusal>) -> Drained
     ensures { result ≡ drained_by s.turn waiting taken s.events s.at stop }
 {
     let turn = s.turn;
@@ -444,7 +443,7 @@ pub fn drain(
         turn: t,
         events: n,
         at: at,
-        stop: Stop::No,
+        stop: None,
     };
     let mut acks = w;
     let mut i = from;
@@ -466,15 +465,15 @@ pub fn drain(
         s = deliver_queued(s, list, delivery, u, store, start);
         let stop = s.stop;
         match stop {
-            Stop::No => {
+            None => {
                 let k = acks.count;
                 acks.values[k] = number;
                 acks.count = k + 1;
                 start += u.len as usize;
                 i += 1;
             }
-            Stop::By(x) => return leave(s, acks, i, Stop::By(x)),
+            Some(x) => return leave(s, acks, i, Some(x)),
         }
     }
-    leave(s, acks, i, Stop::No)
+    leave(s, acks, i, None)
 }

@@ -18,7 +18,7 @@ use Rattle.rules.specs.Events.{Event, handed, listed}
 use Rattle.rules.specs.Progress.{Progress, goes, stops, Outcome, outcome, answers}
 use Rattle.rules.specs.Calls.{Call, step}
 use Rattle.rules.specs.Buffers.{Takes, takes, taken_by, short, wrong_code, over, flat, repacked, outbound_end, queue_end, queue_reach, where_taken}
-use Rattle.events.specs.declared.Stop.{Stop}
+use Rattle.std.specs.Prelude.{Option}
 use Rattle.events.specs.Written.{Books, books, write, Final, final, ends}
 use Rattle.outbox.specs.View.{end_u, unacked_of}
 use Rattle.outbox.proofs.View.{exact-total}
@@ -98,14 +98,14 @@ module _ (c : Call) (all : taken_by c ≡ takes true true true true) (s : Sessio
                 queue = st.queue ∙ sym (ap (λ (z : Takes). where_taken z.queue (repacked (queue_reach c S) (packed frame_body (state_of r o' q').inbox.queue) q) q) all);
               })
 
-          pub comes : {y : Stop} (p : Progress) (a : Answer) → step c S ≡ answers a p
+          pub comes : {y : Option Refusal} (p : Progress) (a : Answer) → step c S ≡ answers a p
               → ((us : List R.Unacked) → final us p (books l 0 d 0) ≡ ends y (state_of r o' q') (books l' n d' end))
               → exit (held r) (told a y) n (lent l' d' o' q') ≡ promise c s (lent l d o q)
           comes {y} (goes x es) a e h =
-              ap (λ (z : Stop). exit (held r) (told a z) n (lent l' d' o' q')) (sym (ap (λ (z : Final). z.stop) (h (unacked_of r.outbox o'))))
+              ap (λ (z : Option Refusal). exit (held r) (told a z) n (lent l' d' o' q')) (sym (ap (λ (z : Final). z.stop) (h (unacked_of r.outbox o'))))
               ∙ came x a es e (ap (λ (z : Final). z.state) (h (unacked_of r.outbox o'))) (ap (λ (z : Final). z.books) (h (unacked_of r.outbox o')))
           comes {y} (stops v x es) a e h =
-              ap (λ (z : Stop). exit (held r) (told a z) n (lent l' d' o' q')) (sym (ap (λ (z : Final). z.stop) (h (unacked_of r.outbox o'))))
+              ap (λ (z : Option Refusal). exit (held r) (told a z) n (lent l' d' o' q')) (sym (ap (λ (z : Final). z.stop) (h (unacked_of r.outbox o'))))
               ∙ came x (Refused v) es e (ap (λ (z : Final). z.state) (h (unacked_of r.outbox o'))) (ap (λ (z : Final). z.books) (h (unacked_of r.outbox o')))
 
 -- ---- past the tests at the entry

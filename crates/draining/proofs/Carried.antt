@@ -17,8 +17,7 @@ use Rattle.rules.specs.Sound.{sound_frame}
 use Rattle.rules.specs.Buffers.{repacked}
 use Rattle.rules.proofs.Lists.{and_left, and_right, and_both, total-append}
 use Rattle.rules.proofs.Sound.{Sound, sound-parts, drains-sound}
-use Rattle.events.specs.declared.Stop.{Stop}
-use Rattle.events.specs.declared.Stop.TheVariants.{No, By}
+use Rattle.std.specs.Prelude.{Option, None, Some}
 use Rattle.events.specs.Written.{Books, books, Within, final, ends}
 use Rattle.events.proofs.Laws.{then_goes}
 use Rattle.numbers.specs.declared.Numbers.{Numbers}
@@ -139,29 +138,29 @@ module _ {t : Turn} {w : Numbers} {from : ℕ} {s : SessionState} {l : List ℕ}
         let few : s.queue.count ≤ 256 = pre.exact.queued.few in
         record { settling = settled; exact = pre.exact; waits = h.waits; room = omega (arith, h.few, pre.few, pre.listed) }
 
-    went : (us : List R.Unacked) (p : Progress) (b : Books) → Within b → final us p b ≡ ends No here (books l n d at)
+    went : (us : List R.Unacked) (p : Progress) (b : Books) → Within b → final us p b ≡ ends None here (books l n d at)
         → final us (p then drain status) b ≡ ends r.stop there (books l₁ r.events d₁ r.at)
     went us p b k e = then_goes us p (drain status) b (books l n d at) here k e ∙ came us
 
-    pub carries-on : r.stop ≡ No → {r₂ : SessionState} {o' q' : Bytes} → Finishes r.turn r.waiting r.taken s o q r₂ o' q'
-        → Carries status t w from s l n d at o q (record { session = r₂; events = r.events; stop = No }) l₁ d₁ o' q'
+    pub carries-on : r.stop ≡ None → {r₂ : SessionState} {o' q' : Bytes} → Finishes r.turn r.waiting r.taken s o q r₂ o' q'
+        → Carries status t w from s l n d at o q (record { session = r₂; events = r.events; stop = None }) l₁ d₁ o' q'
     carries-on z {r₂} {o'} {q'} f =
         record {
           end = r.at;
           does = λ us p b k e.
               failing-goes us (p then drain status) b (books l₁ r.events d₁ r.at) there
-              (went us p b k e ∙ ap (λ (y : Stop). ends y there (books l₁ r.events d₁ r.at)) z)
-              ∙ ap (λ (x : State). ends No x (books l₁ r.events d₁ r.at)) (sym (finishes_view f));
+              (went us p b k e ∙ ap (λ (y : Option Refusal). ends y there (books l₁ r.events d₁ r.at)) z)
+              ∙ ap (λ (x : State). ends None x (books l₁ r.events d₁ r.at)) (sym (finishes_view f));
           stores = finishes_stores f pre.exact h.waits;
         }
 
-    pub carries_not : (x : Refusal) → r.stop ≡ By x → {e : Ended} {l' : List ℕ} {o' q' : Bytes} → Abandons x r.turn r.waiting s l₁ r.events o q e l' o' q'
+    pub carries_not : (x : Refusal) → r.stop ≡ Some x → {e : Ended} {l' : List ℕ} {o' q' : Bytes} → Abandons x r.turn r.waiting s l₁ r.events o q e l' o' q'
         → Carries status t w from s l n d at o q e l' d₁ o' q'
     carries_not x z a =
         record {
           end = r.at;
           does = λ us p b k e.
               a.does us (p then drain status) b (drop r.taken (frames_of s.queue q)) d₁ r.at k
-              (went us p b k e ∙ ap (λ (y : Stop). ends y there (books l₁ r.events d₁ r.at)) z);
+              (went us p b k e ∙ ap (λ (y : Option Refusal). ends y there (books l₁ r.events d₁ r.at)) z);
           stores = a.stores;
         }

@@ -1,5 +1,5 @@
 -- A refusal that empties the queue and lists code 7. Assumes nothing.
-use Rattle.std.specs.Prelude.{if◌then◌else◌}
+use Rattle.std.specs.Prelude.{if◌then◌else◌, Option, None, Some}
 use mathlib.Core.Path.{◌≡◌, refl, sym, ap, ◌∙◌, subst}
 use mathlib.Core.Bool.{Bool, true, false}
 use mathlib.Core.List.{List, [], ◌∷◌, ◌++◌}
@@ -20,8 +20,6 @@ use Rattle.rules.specs.Buffers.{flat, repacked}
 use Rattle.rules.proofs.Lists.{length-packed}
 use Rattle.rules.proofs.Buffers.{repacked-same}
 use Rattle.rules.proofs.Progress.{Leaves}
-use Rattle.events.specs.declared.Stop.{Stop}
-use Rattle.events.specs.declared.Stop.TheVariants.{No, By}
 use Rattle.events.specs.Written.{ListedIn, Listed, Books, books, write, Within, Final, final, ends}
 use Rattle.events.proofs.Laws.{books_cong, write-append}
 use Rattle.outbox.specs.declared.Outbox.{Outbox}
@@ -53,41 +51,41 @@ module _ (us : List R.Unacked) where
       (ap (λ (x : Bytes). placed d at x) e ∙ placed-none d at)
       (ap (λ (x : Bytes). at + length x) e ∙ add-zero at)
 
-  pub failing-goes : (p : Progress) (b b' : Books) (x : State) → final us p b ≡ ends No x b' → final us (failing p) b ≡ ends No x b'
+  pub failing-goes : (p : Progress) (b b' : Books) (x : State) → final us p b ≡ ends None x b' → final us (failing p) b ≡ ends None x b'
   unfolding failing
   failing-goes (goes s es) b b' x e = e
   failing-goes (stops r s es) b b' x e =
-      let y : By r ≡ No = ap (λ (z : Final). z.stop) e in
+      let y : Some r ≡ None = ap (λ (z : Final). z.stop) e in
       let z : ◌≡◌ {A = ℕ} 0 1 = cc in
       absurd (omega arith)
 
-  pub failing-stops : (p : Progress) (b b' : Books) (r : Refusal) (x : State) → Within b → final us p b ≡ ends (By r) x b'
-      → final us (failing p) b ≡ ends (By r) (broken x) (write us (failure r ∷ []) b')
+  pub failing-stops : (p : Progress) (b b' : Books) (r : Refusal) (x : State) → Within b → final us p b ≡ ends (Some r) x b'
+      → final us (failing p) b ≡ ends (Some r) (broken x) (write us (failure r ∷ []) b')
   unfolding failing
   failing-stops (goes s es) b b' r x w e =
-      let y : No ≡ By r = ap (λ (z : Final). z.stop) e in
+      let y : None ≡ Some r = ap (λ (z : Final). z.stop) e in
       let z : ◌≡◌ {A = ℕ} 0 1 = cc in
       absurd (omega arith)
   failing-stops (stops q s es) b b' r x w e =
-      let y : By q ≡ By r = ap (λ (z : Final). z.stop) e in
+      let y : Some q ≡ Some r = ap (λ (z : Final). z.stop) e in
       let f : q ≡ r = cc in
       let g : s ≡ x = ap (λ (z : Final). z.state) e in
       let k : write us es b ≡ b' = ap (λ (z : Final). z.books) e in
-      ap (ends (By q) (broken s)) (write-append us es (failure q ∷ []) b w)
-      ∙ ap (λ (z : Refusal). ends (By z) (broken s) (write us (failure z ∷ []) (write us es b))) f
-      ∙ ap (λ (z : State). ends (By r) (broken z) (write us (failure r ∷ []) (write us es b))) g
-      ∙ ap (λ (z : Books). ends (By r) (broken x) (write us (failure r ∷ []) z)) k
+      ap (ends (Some q) (broken s)) (write-append us es (failure q ∷ []) b w)
+      ∙ ap (λ (z : Refusal). ends (Some z) (broken s) (write us (failure z ∷ []) (write us es b))) f
+      ∙ ap (λ (z : State). ends (Some r) (broken z) (write us (failure r ∷ []) (write us es b))) g
+      ∙ ap (λ (z : Books). ends (Some r) (broken x) (write us (failure r ∷ []) z)) k
 
   -- the same without the refusal
-  pub forgiven-final : (p : Progress) (b b' : Books) (st : Stop) (x : State) → final us (failing p) b ≡ ends st x b' → final us (forgiven p) b ≡ ends No x b'
+  pub forgiven-final : (p : Progress) (b b' : Books) (st : Option Refusal) (x : State) → final us (failing p) b ≡ ends st x b' → final us (forgiven p) b ≡ ends None x b'
   unfolding failing forgiven
   forgiven-final (goes s es) b b' st x e =
-      ap (λ (z : State). ends No z (write us es b)) (ap (λ (z : Final). z.state) e) ∙ ap (ends No x) (ap (λ (z : Final). z.books) e)
+      ap (λ (z : State). ends None z (write us es b)) (ap (λ (z : Final). z.state) e) ∙ ap (ends None x) (ap (λ (z : Final). z.books) e)
   forgiven-final (stops r s es) b b' st x e =
-      ap (λ (z : State). ends No z (write us (es ++ (failure r ∷ [])) b)) (ap (λ (z : Final). z.state) e) ∙ ap (ends No x) (ap (λ (z : Final). z.books) e)
+      ap (λ (z : State). ends None z (write us (es ++ (failure r ∷ [])) b)) (ap (λ (z : Final). z.state) e) ∙ ap (ends None x) (ap (λ (z : Final). z.books) e)
 
   -- what any progress leaves is left at its end
-  pub leaves-final : (P : State → Type 0) (p : Progress) (b b' : Books) (st : Stop) (x : State) → Leaves P p → final us p b ≡ ends st x b' → P x
+  pub leaves-final : (P : State → Type 0) (p : Progress) (b b' : Books) (st : Option Refusal) (x : State) → Leaves P p → final us p b ≡ ends st x b' → P x
   unfolding Leaves
   leaves-final P (goes s es) b b' st x h e = subst P (ap (λ (z : Final). z.state) e) h
   leaves-final P (stops r s es) b b' st x h e = subst P (ap (λ (z : Final). z.state) e) h
@@ -109,7 +107,7 @@ failure-listed x n l l' m e h us =
     record { count = refl; words = λ at. h ∙ ap (λ (k : ℕ). placed l (4 * n) (7 ∷ k ∷ 0 ∷ 0 ∷ [])) e }
 
 pub fails : (x : Refusal) (s : SessionState) (l : List ℕ) (n : ℕ) (q : Bytes) (r : SessionState) (m : ℕ) (l' : List ℕ) (q' : Bytes) → Broken s q r q' → m ≡ refusal_number x
-    → l' ≡ placed l (4 * n) (7 ∷ m ∷ 0 ∷ 0 ∷ []) → Fails x s l n q (record { session = r; events = n + 1; stop = By x }) l' q'
+    → l' ≡ placed l (4 * n) (7 ∷ m ∷ 0 ∷ 0 ∷ []) → Fails x s l n q (record { session = r; events = n + 1; stop = Some x }) l' q'
 fails x s l n q r m l' q' h e k =
     record { does = h.does; listed = failure-listed x n l l' m e k; stop = refl; exact = h.exact; cleared = h.cleared; outbox = h.outbox }
 
@@ -121,14 +119,14 @@ same-unacked x o e =
 
 module _ {x : Refusal} {s : SessionState} {l : List ℕ} {n : ℕ} {q : Bytes} {r : Ended} {l' : List ℕ} {q' : Bytes} (h : Fails x s l n q r l' q') where
   pub fails_final : (us : List R.Unacked) (p : Progress) (b : Books) (d : Bytes) (at : ℕ) (o : Bytes) (fs : List R.Frame) → Within b
-      → final us p b ≡ ends (By x) (view fs s o) (books l n d at)
+      → final us p b ≡ ends (Some x) (view fs s o) (books l n d at)
       → final us (failing p) b ≡ ends r.stop (state_of r.session o q') (books l' r.events d at)
   unfolding packed
   fails_final us p b d at o fs w e =
       failing-stops us p b (books l n d at) x (view fs s o) w e
-      ∙ ap (λ (z : State). ends (By x) z (write us (failure x ∷ []) (books l n d at))) (broken-queue fs (state_of s o q) ∙ sym (h.does o))
-      ∙ ap (ends (By x) (state_of r.session o q')) (listed-books us d at refl (h.listed us))
-      ∙ ap (λ (z : Stop). ends z (state_of r.session o q') (books l' r.events d at)) (sym h.stop)
+      ∙ ap (λ (z : State). ends (Some x) z (write us (failure x ∷ []) (books l n d at))) (broken-queue fs (state_of s o q) ∙ sym (h.does o))
+      ∙ ap (ends (Some x) (state_of r.session o q')) (listed-books us d at refl (h.listed us))
+      ∙ ap (λ (z : Option Refusal). ends z (state_of r.session o q') (books l' r.events d at)) (sym h.stop)
 
   emptied : q' ≡ repacked (end_q s.queue) (packed frame_body (frames_of r.session.queue q')) q
   emptied = h.cleared.bytes ∙ ap (λ (fs : List R.Frame). repacked (end_q s.queue) (packed frame_body fs) q) (sym h.cleared.frames)
@@ -165,7 +163,7 @@ abandons {x} {t} {w} {s} {l} {n} {o} {q} {r₁} {r} {l'} {o'} {q'} pre a h =
     let f : Stores r₁ (end_q r₁.queue) o' q r.session o' q' = fails_stores h o' (advances-exact a (length q) pre.exact pre.waits) in
     record {
       does = λ us p b gs d at k e.
-          fails_final h us p b d at o' gs k (e ∙ ap (λ (z : State). ends (By x) z (books l n d at)) (sym (advances-view a gs (frames_of s.queue q))));
+          fails_final h us p b d at o' gs k (e ∙ ap (λ (z : State). ends (Some x) z (books l n d at)) (sym (advances-view a gs (frames_of s.queue q))));
       stores =
           record {
             exact = f.exact;

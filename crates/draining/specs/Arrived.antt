@@ -1,10 +1,9 @@
 -- A call that takes all four buffers, past the tests at its entry. Assumes nothing.
-use Rattle.std.specs.Prelude.{ℕ, ◌≤◌, ◌<◌, ◌≡◌, true, List, length}
+use Rattle.std.specs.Prelude.{ℕ, ◌≤◌, ◌<◌, ◌≡◌, true, List, length, Option, None, Some}
 use Rattle.rules.specs.declared.Answer.{Answer}
 use Rattle.rules.specs.declared.Answer.TheVariants.{Refused}
 use Rattle.rules.specs.Lists.{Bytes}
-use Rattle.events.specs.declared.Stop.{Stop}
-use Rattle.events.specs.declared.Stop.TheVariants.{No, By}
+use Rattle.rules.specs.declared.Refusal.{Refusal}
 use Rattle.peer_session.specs.declared.SessionState.{SessionState}
 use Rattle.peer_session.specs.Sound.{sound_of, Full}
 
@@ -19,6 +18,6 @@ pub record Arrived (s : SessionState) (l : List ℕ) (d o q : Bytes) : Type 0 wh
   pub low : s.clock.generation < 4294966000
 
 -- the answer, by the refusal that ended it
-abbrev pub told : Answer → Stop → Answer
-told a No = a
-told a (By x) = Refused x
+abbrev pub told : Answer → Option Refusal → Answer
+told a None = a
+told a (Some x) = Refused x

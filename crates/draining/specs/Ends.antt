@@ -1,5 +1,5 @@
 -- What the steps of a call end with. Assumes nothing.
-use Rattle.std.specs.Prelude.{ℕ, ◌+◌, ◌*◌, ◌≤◌, ◌≡◌, true, List, [], ◌∷◌, length, drop}
+use Rattle.std.specs.Prelude.{ℕ, ◌+◌, ◌*◌, ◌≤◌, ◌≡◌, true, List, [], ◌∷◌, length, drop, None, Some}
 use Rattle.rules.specs.declared.HostStatus.{HostStatus}
 use Rattle.rules.specs.declared.Refusal.{Refusal}
 use Rattle.rules.specs.Lists.{Bytes, packed, all}
@@ -10,7 +10,6 @@ use Rattle.rules.specs.Progress.{Progress, ◌then◌, broken, failing}
 use Rattle.rules.specs.Receiving.{drain}
 use Rattle.rules.specs.Sound.{sound, sound_frame}
 use Rattle.rules.specs.Buffers.{repacked}
-use Rattle.events.specs.declared.Stop.TheVariants.{No, By}
 use Rattle.events.specs.Written.{Listed, Books, books, Within, final, ends}
 use Rattle.outbox.specs.View.{end_u, unacked_of}
 use Rattle.queue.specs.View.{end_q, frames_of, Repacked}
@@ -34,7 +33,7 @@ pub record Stores (s : SessionState) (reach : ℕ) (o q : Bytes) (r : SessionSta
 pub record Fails (x : Refusal) (s : SessionState) (l : List ℕ) (n : ℕ) (q : Bytes) (r : Ended) (l' : List ℕ) (q' : Bytes) : Type 0 where
   pub does : (o : Bytes) → state_of r.session o q' ≡ broken (state_of s o q)
   pub listed : Listed (failure x ∷ []) l n l' r.events
-  pub stop : r.stop ≡ By x
+  pub stop : r.stop ≡ Some x
   pub exact : (size : ℕ) → Exact s size (length q) → Exact r.session size (length q')
   pub cleared : Repacked s.queue q [] r.session.queue q'
   pub outbox : r.session.outbox ≡ s.outbox
@@ -48,7 +47,7 @@ pub record Abandoning (t : Turn) (w : Numbers) (s : SessionState) (n listed : �
 
 pub record Abandons (x : Refusal) (t : Turn) (w : Numbers) (s : SessionState) (l : List ℕ) (n : ℕ) (o q : Bytes) (r : Ended) (l' : List ℕ) (o' q' : Bytes) : Type 0 where
   pub does : (us : List R.Unacked) (p : Progress) (b : Books) (gs : List R.Frame) (d : Bytes) (at : ℕ) → Within b
-      → final us p b ≡ ends (By x) (during (state_of s o q) gs (in_use w) t) (books l n d at)
+      → final us p b ≡ ends (Some x) (during (state_of s o q) gs (in_use w) t) (books l n d at)
       → final us (failing p) b ≡ ends r.stop (state_of r.session o' q') (books l' r.events d at)
   pub stores : Stores s (end_q s.queue) o q r.session o' q'
 
@@ -73,6 +72,6 @@ pub record Carries (status : HostStatus) (t : Turn) (w : Numbers) (from : ℕ) (
     (r : Ended) (l' : List ℕ) (d' o' q' : Bytes) : Type 0 where
   pub end : ℕ
   pub does : (us : List R.Unacked) (p : Progress) (b : Books) → Within b
-      → final us p b ≡ ends No (during (state_of s o q) (drop from (frames_of s.queue q)) (in_use w) t) (books l n d at)
+      → final us p b ≡ ends None (during (state_of s o q) (drop from (frames_of s.queue q)) (in_use w) t) (books l n d at)
       → final us (failing (p then drain status)) b ≡ ends r.stop (state_of r.session o' q') (books l' r.events d' end)
   pub stores : Stores s (end_q s.queue) o q r.session o' q'

@@ -9,7 +9,6 @@ ghost use Rattle.draining.specs.Turns.{turn_of, Settling, Settles, Advances, Fin
 ghost use Rattle.draining.specs.Ends.{Fails, Abandoning, Abandons, Carrying, Carries};
 
 use delivery::Turn;
-use events::Stop;
 use numbers::Numbers;
 use outbox::Outbox;
 use peer_session::{RejectBody, SessionState};
@@ -20,7 +19,7 @@ use rules::{HostStatus, Refusal};
 pub struct Ended {
     pub session: SessionState,
     pub events: usize,
-    pub stop: Stop,
+    pub stop: Option<Refusal>,
 }
 
 // ---- a turn, and what it leaves
@@ -123,7 +122,7 @@ pub fn fail(s: SessionState, list: &mut [u64], n: usize, queue: &mut [u8], x: Re
     Ended {
         session: emptied,
         events: n + 1,
-        stop: Stop::By(x),
+        stop: Some(x),
     }
 }
 
@@ -170,13 +169,13 @@ pub fn carry(
     let waiting = d.waiting;
     let stop = d.stop;
     match stop {
-        Stop::By(x) => abandon(s, list, d.events, outbound, queue, turn, waiting, x),
-        Stop::No => {
+        Some(x) => abandon(s, list, d.events, outbound, queue, turn, waiting, x),
+        None => {
             let r = finish(s, outbound, queue, turn, waiting, d.taken);
             Ended {
                 session: r,
                 events: d.events,
-                stop: Stop::No,
+                stop: None,
             }
         }
     }

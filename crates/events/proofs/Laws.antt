@@ -1,5 +1,5 @@
 -- Laws of events listed, of the books, and of what is under way. Assumes nothing.
-use Rattle.std.specs.Prelude.{if◌then◌else◌}
+use Rattle.std.specs.Prelude.{if◌then◌else◌, None, Some}
 use mathlib.Core.Path.{◌≡◌, refl, sym, ap, ◌∙◌, subst}
 use mathlib.Core.Bool.{Bool}
 use mathlib.Core.List.{List, [], ◌∷◌, ◌++◌, append_assoc}
@@ -21,7 +21,6 @@ use Rattle.rules.specs.Progress.{Progress, goes, stops, listing, ◌then◌}
 use Rattle.rules.specs.Buffers.{flat}
 use Rattle.rules.proofs.Events.{listed-append}
 use Rattle.rules.proofs.Lists.{packed-append}
-use Rattle.events.specs.declared.Stop.TheVariants.{No, By}
 use Rattle.events.specs.Written.{ListedIn, Listed, asked, Books, books, write, Within, Final, final, ends}
 
 -- ---- runs of words
@@ -133,25 +132,25 @@ write-append us es fs b w =
 -- ---- what is under way
 
 pub final-listing : (us : List Unacked) (es : List Event) (p : Progress) (b : Books) → Within b → final us (listing es p) b ≡ final us p (write us es b)
-final-listing us es (goes s fs) b w = ap (ends No s) (write-append us es fs b w)
-final-listing us es (stops r s fs) b w = ap (ends (By r) s) (write-append us es fs b w)
+final-listing us es (goes s fs) b w = ap (ends None s) (write-append us es fs b w)
+final-listing us es (stops r s fs) b w = ap (ends (Some r) s) (write-append us es fs b w)
 
 -- one thing after the other
-pub then_goes : (us : List Unacked) (p : Progress) (f : State → Progress) (b b' : Books) (t : State) → Within b → final us p b ≡ ends No t b'
+pub then_goes : (us : List Unacked) (p : Progress) (f : State → Progress) (b b' : Books) (t : State) → Within b → final us p b ≡ ends None t b'
     → final us (p then f) b ≡ final us (f t) b'
 then_goes us (goes s es) f b b' t w e =
     let es' : s ≡ t = ap (λ (x : Final). x.state) e in
     let eb : write us es b ≡ b' = ap (λ (x : Final). x.books) e in
     final-listing us es (f s) b w ∙ ap (λ (x : State). final us (f x) (write us es b)) es' ∙ ap (final us (f t)) eb
 then_goes us (stops r s es) f b b' t w e =
-    let x : By r ≡ No = ap (λ (x : Final). x.stop) e in
+    let x : Some r ≡ None = ap (λ (x : Final). x.stop) e in
     let z : ◌≡◌ {A = ℕ} 0 1 = cc in
     absurd (omega arith)
 
-pub then_stops : (us : List Unacked) (p : Progress) (f : State → Progress) (b b' : Books) (r : Refusal) (t : State) → final us p b ≡ ends (By r) t b'
-    → final us (p then f) b ≡ ends (By r) t b'
+pub then_stops : (us : List Unacked) (p : Progress) (f : State → Progress) (b b' : Books) (r : Refusal) (t : State) → final us p b ≡ ends (Some r) t b'
+    → final us (p then f) b ≡ ends (Some r) t b'
 then_stops us (goes s es) f b b' r t e =
-    let x : No ≡ By r = ap (λ (x : Final). x.stop) e in
+    let x : None ≡ Some r = ap (λ (x : Final). x.stop) e in
     let z : ◌≡◌ {A = ℕ} 0 1 = cc in
     absurd (omega arith)
 then_stops us (stops q s es) f b b' r t e = e

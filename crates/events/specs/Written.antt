@@ -1,5 +1,5 @@
 -- The event list and the delivery buffer while a call writes them, and what a call under way comes to with them. Assumes nothing.
-use Rattle.std.specs.Prelude.{ℕ, ◌+◌, ◌*◌, ◌≤◌, ◌≡◌, List, [], ◌∷◌, length, ltb, if◌then◌else◌}
+use Rattle.std.specs.Prelude.{ℕ, ◌+◌, ◌*◌, ◌≤◌, ◌≡◌, List, [], ◌∷◌, length, ltb, if◌then◌else◌, Option, None, Some}
 use Rattle.stores.specs.Placed.{placed}
 use Rattle.rules.specs.declared.Clock.{Clock}
 use Rattle.rules.specs.Lists.{Bytes, packed}
@@ -7,8 +7,7 @@ use Rattle.rules.specs.State.{Unacked, State}
 use Rattle.rules.specs.Events.{Event, commit_requested, handed, listed}
 use Rattle.rules.specs.Progress.{Progress, goes, stops}
 use Rattle.rules.specs.Buffers.{flat}
-use Rattle.events.specs.declared.Stop.{Stop}
-use Rattle.events.specs.declared.Stop.TheVariants.{No, By}
+use Rattle.rules.specs.declared.Refusal.{Refusal}
 
 -- ---- events listed one after the other, none of which hands a body over
 
@@ -53,18 +52,18 @@ pub record Within (b : Books) : Type 0 where
 -- ---- what a call under way comes to
 
 pub record Final : Type 0 where
-  pub stop : Stop
+  pub stop : Option Refusal
   pub state : State
   pub books : Books
 
 abbrev pub final : List Unacked → Progress → Books → Final
-final us (goes s es) b = record { stop = No; state = s; books = write us es b }
-final us (stops r s es) b = record { stop = By r; state = s; books = write us es b }
+final us (goes s es) b = record { stop = None; state = s; books = write us es b }
+final us (stops r s es) b = record { stop = Some r; state = s; books = write us es b }
 
-abbrev pub ends : Stop → State → Books → Final
+abbrev pub ends : Option Refusal → State → Books → Final
 ends x s b = record { stop = x; state = s; books = b }
 
 -- a progress that lists nothing, by how it ends
-abbrev pub ended : Stop → State → Progress
-ended No s = goes s []
-ended (By r) s = stops r s []
+abbrev pub ended : Option Refusal → State → Progress
+ended None s = goes s []
+ended (Some r) s = stops r s []

@@ -7,13 +7,6 @@ ghost use Rattle.events.specs.Written.{asked, Listed};
 
 use rules::Clock;
 
-// Whether a refusal ended what was under way: the Rust's `Result`.
-#[derive(Clone, Copy)]
-pub enum Stop {
-    No,
-    By(rules::Refusal),
-}
-
 // Writes event number n.
 pub fn emit(list: &mut [u64], n: usize, code: u64, number: u64, start: u64, len: u64)
     requires { 4 * n + 4 ≤ length list.old }

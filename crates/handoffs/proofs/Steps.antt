@@ -19,7 +19,7 @@ use Rattle.rules.specs.Handoff.{Command, handing_off, channel_command}
 use Rattle.rules.specs.Sending.{allocate}
 use Rattle.stores.specs.Placed.{placed}
 use Rattle.stores.proofs.Laws.{length-placed}
-use Rattle.events.specs.declared.Stop.TheVariants.{No, By}
+use Rattle.std.specs.Prelude.{None, Some}
 use Rattle.events.specs.Written.{asked}
 use Rattle.events.proofs.Laws.{listed-none}
 use Rattle.outbox.specs.View.{ExactOutbox}
@@ -140,10 +140,10 @@ module _ (b : Bool) (c : Command) (s : SessionState) (l : List ℕ) (o : Bytes) 
       ap (by_handoff b (some c) (state_of s o q)) (is-absent s.handoff absent)
       ∙ ap (λ (p : Progress). answers Done (p then handing_off c s.outbox.next then request)) e
 
-  pub hand_stopped : {r : Returned} (x : Refusal) → a.stop ≡ By x → Turned a.session x r → Comes (commanding b (some c)) s l o r l o'
+  pub hand_stopped : {r : Returned} (x : Refusal) → a.stop ≡ Some x → Turned a.session x r → Comes (commanding b (some c)) s l o r l o'
   hand_stopped x e t = stopped j e t (λ q u h. sending q h)
 
-  pub handed_off : {h : TerminalHandoff} {r : Returned} {l' : List ℕ} → a.stop ≡ No → HandsOver c.id s.outbox.next c.body h
+  pub handed_off : {h : TerminalHandoff} {r : Returned} {l' : List ℕ} → a.stop ≡ None → HandsOver c.id s.outbox.next c.body h
       → Asks (handing h a.session) l r l' → Comes (commanding b (some c)) s l o r l' o'
   unfolding request
   handed_off {h} e w k =
@@ -151,7 +151,7 @@ module _ (b : Bool) (c : Command) (s : SessionState) (l : List ℕ) (o : Bytes) 
       (record {
         shown = asked a.session.clock;
         does = λ q.
-            sending q (joined j No e q)
+            sending q (joined j None e q)
             ∙ ap (λ (z : Option R.Handoff). outcome (handoff_is z (state_of a.session o' q)) Done (asked a.session.clock)) (sym w.is);
         exact = λ size ex.
             let x : Exact a.session (length o') size = j.exact size ex in

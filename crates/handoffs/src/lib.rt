@@ -12,7 +12,6 @@ ghost use Rattle.session.specs.Promise.{CalledWithOutbound};
 ghost use Rattle.setup.specs.Steps.{Comes};
 ghost use Rattle.handoffs.specs.Commands.{command_of, starting_in, commanding, HandsOver, carries_body, Vacant, Holding, validating};
 
-use events::Stop;
 use outbox::Outbox;
 use peer_session::{SessionState, TerminalHandoff};
 use rules::{Refusal, Setup};
@@ -103,8 +102,8 @@ fn hand_off(
     let mut r = a.session;
     let stop = a.stop;
     match stop {
-        Stop::By(x) => session::refused(r, x),
-        Stop::No => {
+        Some(x) => session::refused(r, x),
+        None => {
             let h = handed(id, number, body);
             r.handoff = h;
             setup::done(r, list)

@@ -1,5 +1,5 @@
 -- An ack on the parts of a session, done in place. Assumes nothing.
-use Rattle.std.specs.Prelude.{if◌then◌else◌}
+use Rattle.std.specs.Prelude.{if◌then◌else◌, Result, Ok, Err}
 use Prim.Native.Nat.{ℕ, ◌+◌, ◌≤◌, ◌<◌}
 use mathlib.Core.Path.{◌≡◌, refl, sym, ap, ◌∙◌, subst}
 use mathlib.Core.Bool.{Bool, true, false, ◌&&◌, ◌||◌}
@@ -19,8 +19,6 @@ use Rattle.rules.specs.Lists.{Bytes, kept, empty}
 use Rattle.rules.specs.State.{is_raw}
 use Rattle.rules.specs.Acks.{survives}
 use Rattle.rules.specs.Calls.{gets_ack}
-use Rattle.events.specs.declared.Stop.{Stop}
-use Rattle.events.specs.declared.Stop.TheVariants.{No, By}
 use Rattle.events.specs.Written.{Listed, asked}
 use Rattle.outbox.specs.View.{unacked_of, ExactOutbox}
 use Rattle.peer_session.specs.declared.Stage.{Stage}
@@ -242,10 +240,10 @@ unfolding opened_of
 spent_in w h b t k = k
 
 -- a refusal by them, or none
-pub turned : (p : Parts) (l : List ℕ) (o q : Bytes) (number : ℕ) {r : Stop} {x : Refusal} → AckFound p (length l) (length o) (length q) r → r ≡ By x
+pub turned : (p : Parts) (l : List ℕ) (o q : Bytes) (number : ℕ) {r : Result (Unit {0}) Refusal} {x : Refusal} → AckFound p (length l) (length o) (length q) r → r ≡ Err x
     → {y : LinkAnswer} → y ≡ answer_of (Refused x) 0 → Driven p p y (λ s r. CalledWithStores (gets_ack number) s l o q r l o q)
 turned p l o q number k e f =
-    refuses p _ f (λ v u. (subst (λ (z : Stop). AckFound p (length l) (length o) (length q) z) e k).call l o q refl refl refl number v u)
+    refuses p _ f (λ v u. (subst (λ (z : Result (Unit {0}) Refusal). AckFound p (length l) (length o) (length q) z) e k).call l o q refl refl refl number v u)
 
-pub fits : (p : Parts) (n m k : ℕ) {r : Stop} → AckFound p n m k r → r ≡ No → AckReady p n m × (32768 ≤ k)
-fits p n m k found e = subst (λ (z : Stop). AckFound p n m k z) e found
+pub fits : (p : Parts) (n m k : ℕ) {r : Result (Unit {0}) Refusal} → AckFound p n m k r → r ≡ Ok tt → AckReady p n m × (32768 ≤ k)
+fits p n m k found e = subst (λ (z : Result (Unit {0}) Refusal). AckFound p n m k z) e found

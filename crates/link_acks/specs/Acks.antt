@@ -1,12 +1,10 @@
 -- The steps of an ack on the parts of a session. Assumes nothing.
-use Rattle.std.specs.Prelude.{ℕ, ◌+◌, ◌-◌, ◌≤◌, ◌<◌, ◌≡◌, Bool, true, false, ◌||◌, List, ltb, Float, length}
+use Rattle.std.specs.Prelude.{ℕ, ◌+◌, ◌-◌, ◌≤◌, ◌<◌, ◌≡◌, Bool, true, false, ◌||◌, List, ltb, Float, length, Result, Ok, Err}
 use Rattle.rules.specs.declared.Answer.TheVariants.{Refused}
 use Rattle.rules.specs.declared.Refusal.{Refusal}
 use Rattle.rules.specs.declared.Refusal.TheVariants.{AckOutOfRange}
 use Rattle.rules.specs.Lists.{Bytes}
 use Rattle.rules.specs.Calls.{gets_ack}
-use Rattle.events.specs.declared.Stop.{Stop}
-use Rattle.events.specs.declared.Stop.TheVariants.{No, By}
 use Rattle.peer_session.specs.Sound.{sound_of, Full}
 use Rattle.session.specs.declared.Returned.{Returned}
 use Rattle.session.specs.Promise.{CalledWithStores, Turned}
@@ -29,11 +27,11 @@ pub record AckTurns (p : Parts) (n m k : ℕ) (x : Refusal) : Type 0 where
   pub call : (l : List ℕ) (o q : Bytes) → length l ≡ n → length o ≡ m → length q ≡ k → (number : ℕ) (r : Returned) → Turned (opened_of p) x r
       → CalledWithStores (gets_ack number) (opened_of p) l o q r l o q
 
-abbrev pub AckFound : Parts → ℕ → ℕ → ℕ → Stop → Type 0
-AckFound p n m k No = AckReady p n m × (32768 ≤ k)
-AckFound p n m k (By x) = AckTurns p n m k x
+abbrev pub AckFound : Parts → ℕ → ℕ → ℕ → Result (Unit {0}) Refusal → Type 0
+AckFound p n m k (Ok tt) = AckReady p n m × (32768 ≤ k)
+AckFound p n m k (Err x) = AckTurns p n m k x
 
-abbrev pub AckEnters : List ℕ → List ℕ → List ℕ → ℕ → ℕ → ℕ → Stop → Type 0
+abbrev pub AckEnters : List ℕ → List ℕ → List ℕ → ℕ → ℕ → ℕ → Result (Unit {0}) Refusal → Type 0
 AckEnters w h b n m k r = (t : Float) → AckFound (parts w h b t) n m k r
 
 -- ---- an ack of no message that was sent, by the next message's number

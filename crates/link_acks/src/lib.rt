@@ -10,7 +10,6 @@ ghost use Rattle.parts.specs.Driven.{Driven};
 ghost use Rattle.link_draining.specs.Steps.{Failing};
 ghost use Rattle.link_acks.specs.Acks.{AckReady, AckEnters, outside, BeyondIn, raised_if};
 
-use events::Stop;
 use parts::{Bytes, Halves, LinkAnswer, Words, full_halves};
 use peer_session::SessionState;
 use rules::{Answer, Refusal};
@@ -23,26 +22,26 @@ fn ack_enters(
     list: usize,
     outbound: usize,
     queue: usize,
-) -> Stop
+) -> Result<(), Refusal>
     ensures { AckEnters words.now halves.now bytes.now list outbound queue result }
 {
     if list < SessionState::EVENT_WORDS {
-        return Stop::By(Refusal::ShortBuffer);
+        return Err(Refusal::ShortBuffer);
     }
     if outbound < SessionState::OUTBOUND_BYTES {
-        return Stop::By(Refusal::ShortBuffer);
+        return Err(Refusal::ShortBuffer);
     }
     if queue < SessionState::QUEUE_BYTES {
-        return Stop::By(Refusal::ShortBuffer);
+        return Err(Refusal::ShortBuffer);
     }
     if !link_sound::sound(words, halves, bytes) {
-        return Stop::By(Refusal::BadRecord);
+        return Err(Refusal::BadRecord);
     }
     if SessionState::GENERATION_LIMIT <= halves[parts::GENERATION] {
-        return Stop::By(Refusal::GenerationsExhausted);
+        return Err(Refusal::GenerationsExhausted);
     }
     full_halves(halves);
-    Stop::No
+    Ok(())
 }
 
 // Whether an ack is of no message that was sent.
@@ -170,8 +169,8 @@ pub fn ack(
         queue.len(),
     );
     match stop {
-        Stop::By(x) => link_codes::refusal(x),
-        Stop::No => {
+        Err(x) => link_codes::refusal(x),
+        Ok(()) => {
             if out_of_range(words[parts::NEXT], number) {
                 return beyond(words, halves, bytes, clock, list, queue);
             }

@@ -13,7 +13,7 @@ use Rattle.rules.specs.declared.Refusal.{Refusal}
 use Rattle.rules.specs.declared.Refusal.TheVariants.{QueueCount, QueueBytes}
 use Rattle.rules.specs.Lists.{Bytes, any, put, itself}
 use Rattle.rules.specs.State.{Frame, frame_number, is_frame}
-use Rattle.events.specs.declared.Stop.TheVariants.{No, By}
+use Rattle.std.specs.Prelude.{None, Some}
 use Rattle.parts.specs.Codes.{good_codes}
 use Rattle.events.specs.Written.{Listed, asked, books}
 use Rattle.numbers.specs.declared.Numbers.{Numbers}
@@ -54,15 +54,15 @@ module _ (n : ℕ) (w h b : List ℕ) (t : Float) (l : List ℕ) where
   clocked c l₁ k l' m = Listed (asked c) l₁ k l' m
 
   pub answers : {c : Clock} {l₁ l' : List ℕ} {k : ℕ} → c ≡ clock_in h t → n ≤ at w 3 → l₁ ≡ placed l (4 * 0) (10 ∷ n ∷ 0 ∷ 0 ∷ []) → Listed (asked c) l₁ 1 l' k
-      → Acknowledges n S l (record { session = S; events = k; stop = No }) l'
+      → Acknowledges n S l (record { session = S; events = k; stop = None }) l'
   unfolding opened_of
   answers {c} {l₁} {l'} {k} ck x e li = answers-again n S l l₁ l' k x e (subst (λ (z : Clock). clocked z l₁ 1 l' k) ck li)
 
   pub waits : 1296 ≤ length w → 4936 ≤ length b → {w' : List ℕ} → Becomes (put itself n (in_use (waiting_in w))) 272 5 w w' → {c : Clock} {l' : List ℕ} {k : ℕ} → c ≡ clock_in h t → at w 3 < n
-      → Listed (asked c) l 0 l' k → Acknowledges n S l (record { session = opened_of (parts w' h b t); events = k; stop = No }) l'
+      → Listed (asked c) l 0 l' k → Acknowledges n S l (record { session = opened_of (parts w' h b t); events = k; stop = None }) l'
   unfolding opened_of
   waits lw lb {w'} p {c} {l'} {k} ck x li =
-      subst (λ (z : SessionState). Acknowledges n S l (record { session = z; events = k; stop = No }) l') (sym (rewaited w h b t lw lb p.only))
+      subst (λ (z : SessionState). Acknowledges n S l (record { session = z; events = k; stop = None }) l') (sym (rewaited w h b t lw lb p.only))
       (waits-again n S l (waiting_in w') l' k x p.holds (subst (λ (z : Clock). clocked z l 0 l' k) ck li))
 
   pub fits : Acknowledging n S (length l) → at w 3 < n → length (put itself n (in_use (waiting_in w))) ≤ 512
@@ -130,17 +130,17 @@ module _ {status : HostStatus} {u : Turn} {f : Frame} (w h b : List ℕ) (t : Fl
   few_now = pre.taking.receiving.exact.queued.few
 
   module _ {a : Step} {l₁ : List ℕ} {d₁ : Bytes} (g : Delivered f u (books l 0 d 0) a l₁ d₁) where
-    pub abandoning : (x : Refusal) → a.stop ≡ By x → length l₁ ≡ length l
+    pub abandoning : (x : Refusal) → a.stop ≡ Some x → length l₁ ≡ length l
         → Abandoning a.turn (waiting_in w) S₁ a.events (length l₁) (length o) (length q) × (good_codes (codes_in h b) ≡ true)
     unfolding opened_of
     abandoning x z e = (now_abandoning pre.taking g x z e, good_now)
 
-    pub refused : (x : Refusal) → a.stop ≡ By x → {r : Ended} {l' : List ℕ} {o' q' : Bytes} → Abandons x a.turn (waiting_in w) S₁ l₁ a.events o q r l' o' q'
+    pub refused : (x : Refusal) → a.stop ≡ Some x → {r : Ended} {l' : List ℕ} {o' q' : Bytes} → Abandons x a.turn (waiting_in w) S₁ l₁ a.events o q r l' o' q'
         → Anew status f S₁ l d o q r l' d₁ o' q'
     unfolding opened_of
     refused x z c = now_refused pre.taking g x z c
 
-    module _ (z : a.stop ≡ No) where
+    module _ (z : a.stop ≡ None) where
       pub may_put : Rising 272 5 w × (length (put itself f.number (in_use (waiting_in w))) ≤ 512)
       unfolding opened_of
       may_put = ((usable w h b t pre.checked).waiting, (put-fits pre.taking g z).1)

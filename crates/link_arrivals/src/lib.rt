@@ -10,7 +10,6 @@ ghost use Rattle.link_draining.specs.Endings.{ended_of};
 ghost use Rattle.link_arrivals.specs.Steps.{Receiving, Taking};
 
 use delivery::Turn;
-use events::Stop;
 use link_draining::Ending;
 use parts::{Bytes, Halves, Words};
 use rules::{HostStatus, Refusal};
@@ -35,14 +34,14 @@ pub fn receive_again(
         let n = events::request(c, list, 1);
         return Ending {
             events: n,
-            stop: Stop::No,
+            stop: None,
         };
     }
     link_numbers::put(words, parts::WAITING_NUMBERS, parts::WAITING, number);
     let n = events::request(c, list, 0);
     Ending {
         events: n,
-        stop: Stop::No,
+        stop: None,
     }
 }
 
@@ -71,10 +70,10 @@ fn take_now(
     let turn = a.turn;
     let stop = a.stop;
     match stop {
-        Stop::By(x) => link_draining::abandon(
+        Some(x) => link_draining::abandon(
             words, halves, bytes, clock, list, a.events, outbound, queue, turn, x,
         ),
-        Stop::No => {
+        None => {
             let from = link_queue::up_to(words, number);
             link_numbers::put(words, parts::WAITING_NUMBERS, parts::WAITING, number);
             let c = turn.clock;

@@ -8,8 +8,8 @@ use lib.Ieee.{Float}
 use lib.ListN.{length}
 use Rattle.rules.specs.declared.Refusal.TheVariants.{ShortBuffer, UnknownCode, BadRecord, GenerationsExhausted}
 use Rattle.rules.specs.Lists.{Bytes}
-use Rattle.events.specs.declared.Stop.{Stop}
-use Rattle.events.specs.declared.Stop.TheVariants.{No, By}
+use Rattle.std.specs.Prelude.{Result, Ok, Err}
+use Rattle.rules.specs.declared.Refusal.{Refusal}
 use Rattle.peer_session.specs.Sound.{Checked}
 use Rattle.peer_session.specs.View.{state_of}
 use Rattle.session.proofs.Entry.{entered}
@@ -19,27 +19,27 @@ use Rattle.parts.specs.Parts.{parts, at, opened_of}
 use Rattle.link_checks.specs.Entry.{Passing, Found, Enters}
 
 module _ (w h b : List ℕ) (wrong : Bool) (nl nd nu nq : ℕ) where
-  pub list-short : nl < 4096 → Enters w h b wrong nl nd nu nq (By ShortBuffer)
+  pub list-short : nl < 4096 → Enters w h b wrong nl nd nu nq (Err ShortBuffer)
   list-short k =
       record { found = λ t. record { call = λ c all wr sp l d o q el ed eo eq r tu. Calls.list-short c all (opened_of (parts w h b t)) l d o q tu (omega (arith, el, k)) } }
 
   module _ (ll : 4096 ≤ nl) where
-    pub delivery-short : nd < 49152 → Enters w h b wrong nl nd nu nq (By ShortBuffer)
+    pub delivery-short : nd < 49152 → Enters w h b wrong nl nd nu nq (Err ShortBuffer)
     delivery-short k =
         record { found = λ t. record { call = λ c all wr sp l d o q el ed eo eq r tu. Calls.delivery-short c all (opened_of (parts w h b t)) l d o q tu (omega (arith, ed, k)) } }
 
     module _ (ld : 49152 ≤ nd) where
-      pub outbound-short : nu < 65536 → Enters w h b wrong nl nd nu nq (By ShortBuffer)
+      pub outbound-short : nu < 65536 → Enters w h b wrong nl nd nu nq (Err ShortBuffer)
       outbound-short k =
           record { found = λ t. record { call = λ c all wr sp l d o q el ed eo eq r tu. Calls.outbound-short c all (opened_of (parts w h b t)) l d o q tu (omega (arith, eo, k)) } }
 
       module _ (lo : 65536 ≤ nu) where
-        pub queue-short : nq < 32768 → Enters w h b wrong nl nd nu nq (By ShortBuffer)
+        pub queue-short : nq < 32768 → Enters w h b wrong nl nd nu nq (Err ShortBuffer)
         queue-short k =
             record { found = λ t. record { call = λ c all wr sp l d o q el ed eo eq r tu. Calls.queue-short c all (opened_of (parts w h b t)) l d o q tu (omega (arith, eq, k)) } }
 
         module _ (lq : 32768 ≤ nq) where
-          pub code_wrong : wrong ≡ true → Enters w h b wrong nl nd nu nq (By UnknownCode)
+          pub code_wrong : wrong ≡ true → Enters w h b wrong nl nd nu nq (Err UnknownCode)
           code_wrong k =
               record {
                 found = λ t.
@@ -50,7 +50,7 @@ module _ (w h b : List ℕ) (wrong : Bool) (nl nd nu nq : ℕ) where
               }
 
           module _ (known : wrong ≡ false) {r : Bool} (k : (t : Float) → Checked (opened_of (parts w h b t)) r) where
-            pub unsound : r ≡ false → Enters w h b wrong nl nd nu nq (By BadRecord)
+            pub unsound : r ≡ false → Enters w h b wrong nl nd nu nq (Err BadRecord)
             unsound e =
                 record {
                   found = λ t.
@@ -62,7 +62,7 @@ module _ (w h b : List ℕ) (wrong : Bool) (nl nd nu nq : ℕ) where
                 }
 
             module _ (sound : r ≡ true) where
-              pub spent : 4294966000 ≤ at h 768 → Enters w h b wrong nl nd nu nq (By GenerationsExhausted)
+              pub spent : 4294966000 ≤ at h 768 → Enters w h b wrong nl nd nu nq (Err GenerationsExhausted)
               unfolding opened_of
               spent g =
                   record {
@@ -77,7 +77,7 @@ module _ (w h b : List ℕ) (wrong : Bool) (nl nd nu nq : ℕ) where
                         };
                   }
 
-              pub passes : at h 768 < 4294966000 → Enters w h b wrong nl nd nu nq No
+              pub passes : at h 768 < 4294966000 → Enters w h b wrong nl nd nu nq (Ok tt)
               unfolding opened_of
               passes g =
                   record {
@@ -95,13 +95,13 @@ module _ (w h b : List ℕ) (wrong : Bool) (nl nd nu nq : ℕ) where
 
 -- ---- what a caller has of them
 
-module _ {w h b : List ℕ} {wrong : Bool} (l : List ℕ) (d o q : Bytes) {z : Stop} (e : Enters w h b wrong (length l) (length d) (length o) (length q) z) (t : Float) where
-  pub found_by : (y : Stop) → z ≡ y → Found (parts w h b t) wrong (length l) (length d) (length o) (length q) y
-  found_by y x = subst (λ (v : Stop). Found (parts w h b t) wrong (length l) (length d) (length o) (length q) v) x (e.found t)
+module _ {w h b : List ℕ} {wrong : Bool} (l : List ℕ) (d o q : Bytes) {z : Result (Unit {0}) Refusal} (e : Enters w h b wrong (length l) (length d) (length o) (length q) z) (t : Float) where
+  pub found_by : (y : Result (Unit {0}) Refusal) → z ≡ y → Found (parts w h b t) wrong (length l) (length d) (length o) (length q) y
+  found_by y x = subst (λ (v : Result (Unit {0}) Refusal). Found (parts w h b t) wrong (length l) (length d) (length o) (length q) v) x (e.found t)
 
-  pub arrives : z ≡ No → Arrived (opened_of (parts w h b t)) l d o q
+  pub arrives : z ≡ Ok tt → Arrived (opened_of (parts w h b t)) l d o q
   arrives x =
-      let k : Passing (parts w h b t) wrong (length l) (length d) (length o) (length q) = found_by No x in
+      let k : Passing (parts w h b t) wrong (length l) (length d) (length o) (length q) = found_by (Ok tt) x in
       record {
         good = sym k.checked.is;
         full = k.checked.full;

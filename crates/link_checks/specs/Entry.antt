@@ -1,5 +1,5 @@
 -- The tests at the entry of a call that takes all four buffers, on the parts of a session. Assumes nothing.
-use Rattle.std.specs.Prelude.{ℕ, ◌≤◌, ◌<◌, ◌≡◌, Bool, true, false, List, [], Float, length}
+use Rattle.std.specs.Prelude.{ℕ, ◌≤◌, ◌<◌, ◌≡◌, Bool, true, false, List, [], Float, length, Result, Ok, Err}
 use Rattle.rules.specs.declared.Answer.TheVariants.{Refused}
 use Rattle.rules.specs.declared.Refusal.{Refusal}
 use Rattle.rules.specs.declared.Refusal.TheVariants.{GenerationsExhausted}
@@ -8,8 +8,6 @@ use Rattle.rules.specs.State.{State}
 use Rattle.rules.specs.Progress.{outcome}
 use Rattle.rules.specs.Calls.{Call, step}
 use Rattle.rules.specs.Buffers.{takes, taken_by, wrong_code, queue_end, queue_reach}
-use Rattle.events.specs.declared.Stop.{Stop}
-use Rattle.events.specs.declared.Stop.TheVariants.{No, By}
 use Rattle.peer_session.specs.Sound.{Checked}
 use Rattle.session.specs.declared.Returned.{Returned}
 use Rattle.session.specs.Promise.{lent, Called, Turned}
@@ -36,9 +34,9 @@ pub record Stopped (p : Parts) (wrong : Bool) (nl nd nu nq : ℕ) (x : Refusal) 
       → (l : List ℕ) (d o q : Bytes) → length l ≡ nl → length d ≡ nd → length o ≡ nu → length q ≡ nq
       → (r : Returned) → Turned (opened_of p) x r → Called c (opened_of p) (lent l d o q) r (lent l d o q)
 
-abbrev pub Found : Parts → Bool → ℕ → ℕ → ℕ → ℕ → Stop → Type 0
-Found p wrong nl nd nu nq No = Passing p wrong nl nd nu nq
-Found p wrong nl nd nu nq (By x) = Stopped p wrong nl nd nu nq x
+abbrev pub Found : Parts → Bool → ℕ → ℕ → ℕ → ℕ → Result (Unit {0}) Refusal → Type 0
+Found p wrong nl nd nu nq (Ok tt) = Passing p wrong nl nd nu nq
+Found p wrong nl nd nu nq (Err x) = Stopped p wrong nl nd nu nq x
 
-pub record Enters (w h b : List ℕ) (wrong : Bool) (nl nd nu nq : ℕ) (r : Stop) : Type 0 where
+pub record Enters (w h b : List ℕ) (wrong : Bool) (nl nd nu nq : ℕ) (r : Result (Unit {0}) Refusal) : Type 0 where
   pub found : (t : Float) → Found (parts w h b t) wrong nl nd nu nq r

@@ -4,7 +4,6 @@
 ghost use Rattle.link_checks.specs.Entry.{Enters};
 ghost use Rattle.link_checks.specs.Checks.{Countable, Filled, Judged};
 
-use events::Stop;
 use parts::{Bytes, Halves, Words};
 use peer_session::SessionState;
 use receiving::Verdict;
@@ -22,31 +21,31 @@ pub fn enters(
     outbound: usize,
     queue: usize,
     wrong: bool,
-) -> Stop
+) -> Result<(), Refusal>
     ensures { Enters words.now halves.now bytes.now wrong list delivery outbound queue result }
 {
     if list < SessionState::EVENT_WORDS {
-        return Stop::By(Refusal::ShortBuffer);
+        return Err(Refusal::ShortBuffer);
     }
     if delivery < SessionState::DELIVERY_BYTES {
-        return Stop::By(Refusal::ShortBuffer);
+        return Err(Refusal::ShortBuffer);
     }
     if outbound < SessionState::OUTBOUND_BYTES {
-        return Stop::By(Refusal::ShortBuffer);
+        return Err(Refusal::ShortBuffer);
     }
     if queue < SessionState::QUEUE_BYTES {
-        return Stop::By(Refusal::ShortBuffer);
+        return Err(Refusal::ShortBuffer);
     }
     if wrong {
-        return Stop::By(Refusal::UnknownCode);
+        return Err(Refusal::UnknownCode);
     }
     if !link_sound::sound(words, halves, bytes) {
-        return Stop::By(Refusal::BadRecord);
+        return Err(Refusal::BadRecord);
     }
     if SessionState::GENERATION_LIMIT <= halves[parts::GENERATION] {
-        return Stop::By(Refusal::GenerationsExhausted);
+        return Err(Refusal::GenerationsExhausted);
     }
-    Stop::No
+    Ok(())
 }
 
 // ---- checks

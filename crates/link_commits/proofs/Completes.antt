@@ -12,8 +12,7 @@ use Rattle.rules.specs.declared.PreparedCommit.{PreparedCommit}
 use Rattle.rules.specs.declared.Refusal.{Refusal}
 use Rattle.rules.specs.declared.Refusal.TheVariants.{ShortBuffer, BadRecord, CommitNumber}
 use Rattle.rules.specs.Calls.{prepares, completes}
-use Rattle.events.specs.declared.Stop.{Stop}
-use Rattle.events.specs.declared.Stop.TheVariants.{No, By}
+use Rattle.std.specs.Prelude.{Result, Ok, Err}
 use Rattle.events.specs.Written.{Listed}
 use Rattle.outbox.specs.Sound.{sound_outbox_of}
 use Rattle.outbox.proofs.View.{sound_facts}
@@ -52,12 +51,12 @@ module _ (p : Parts) {n : ℕ} (c : PreparedCommit) where
       remote-past ho h = record { call = λ b l e r t. C.remote_refused c b (opened_of p) l (omega (arith, e)) sound full ho t h }
 
 -- what they found
-pub found-ready : (p : Parts) (n : ℕ) (c : PreparedCommit) (r : Stop) → r ≡ No → Found p n c r → Ready p n c
-found-ready p n c r e f = subst (λ (r : Stop). Found p n c r) e f
+pub found-ready : (p : Parts) (n : ℕ) (c : PreparedCommit) (r : Result (Unit {0}) Refusal) → r ≡ Ok tt → Found p n c r → Ready p n c
+found-ready p n c r e f = subst (λ (r : Result (Unit {0}) Refusal). Found p n c r) e f
 
-pub turned : (p : Parts) (l : List ℕ) (c : PreparedCommit) (b : Bool) (r : Stop) (x : Refusal) → r ≡ By x → Found p (length l) c r
+pub turned : (p : Parts) (l : List ℕ) (c : PreparedCommit) (b : Bool) (r : Result (Unit {0}) Refusal) (x : Refusal) → r ≡ Err x → Found p (length l) c r
     → {y : LinkAnswer} → y ≡ answer_of (Refused x) 0 → Driven p p y (λ s r. CalledWithList (completes c b) s l r l)
-turned p l c b r x e f a = refuses p x a (λ r u. (subst (λ (r : Stop). Found p (length l) c r) e f).call b l refl r u)
+turned p l c b r x e f a = refuses p x a (λ r u. (subst (λ (r : Result (Unit {0}) Refusal). Found p (length l) c r) e f).call b l refl r u)
 
 -- ---- past them
 

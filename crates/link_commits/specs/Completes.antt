@@ -1,10 +1,8 @@
 -- The steps of a completed commit on the parts of a session. Assumes nothing.
-use Rattle.std.specs.Prelude.{ℕ, ◌≤◌, ◌≡◌, Bool, true, List, Float, length}
+use Rattle.std.specs.Prelude.{ℕ, ◌≤◌, ◌≡◌, Bool, true, List, Float, length, Result, Ok, Err}
 use Rattle.rules.specs.declared.PreparedCommit.{PreparedCommit}
 use Rattle.rules.specs.declared.Refusal.{Refusal}
 use Rattle.rules.specs.Calls.{completes}
-use Rattle.events.specs.declared.Stop.{Stop}
-use Rattle.events.specs.declared.Stop.TheVariants.{No, By}
 use Rattle.outbox.specs.Sound.{sound_outbox_of}
 use Rattle.peer_session.specs.Sound.{sound_of, Full}
 use Rattle.session.specs.declared.Returned.{Returned}
@@ -26,11 +24,11 @@ pub record Ready (p : Parts) (n : ℕ) (c : PreparedCommit) : Type 0 where
 pub record Turns (p : Parts) (n : ℕ) (c : PreparedCommit) (x : Refusal) : Type 0 where
   pub call : (persisted : Bool) (l : List ℕ) → length l ≡ n → (r : Returned) → Turned (opened_of p) x r → CalledWithList (completes c persisted) (opened_of p) l r l
 
-abbrev pub Found : Parts → ℕ → PreparedCommit → Stop → Type 0
-Found p n c No = Ready p n c
-Found p n c (By x) = Turns p n c x
+abbrev pub Found : Parts → ℕ → PreparedCommit → Result (Unit {0}) Refusal → Type 0
+Found p n c (Ok tt) = Ready p n c
+Found p n c (Err x) = Turns p n c x
 
-abbrev pub Enters : List ℕ → List ℕ → List ℕ → ℕ → PreparedCommit → Stop → Type 0
+abbrev pub Enters : List ℕ → List ℕ → List ℕ → ℕ → PreparedCommit → Result (Unit {0}) Refusal → Type 0
 Enters w h b n c r = (t : Float) → Found (parts w h b t) n c r
 
 -- ---- messages and acks go out

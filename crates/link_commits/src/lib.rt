@@ -8,7 +8,6 @@ ghost use Rattle.parts.specs.Parts.{parts};
 ghost use Rattle.parts.specs.Driven.{Driven, DrivenAnswer};
 ghost use Rattle.link_commits.specs.Completes.{Ready, Enters, MayReleaseIn, ReleasesIn};
 
-use events::Stop;
 use parts::{Bytes, Halves, LinkAnswer, Words};
 use peer_session::SessionState;
 use rules::{Answer, PreparedCommit, Refusal};
@@ -37,23 +36,23 @@ fn enters(
     bytes: &Bytes,
     list: usize,
     commit: PreparedCommit,
-) -> Stop
+) -> Result<(), Refusal>
     ensures { Enters words.now halves.now bytes.now list commit result }
 {
     parts::full_halves(halves);
     if list < SessionState::EVENT_WORDS {
-        return Stop::By(Refusal::ShortBuffer);
+        return Err(Refusal::ShortBuffer);
     }
     if !link_sound::sound(words, halves, bytes) {
-        return Stop::By(Refusal::BadRecord);
+        return Err(Refusal::BadRecord);
     }
     if SessionState::LAST_REMOTE < commit.outbound {
-        return Stop::By(Refusal::CommitNumber);
+        return Err(Refusal::CommitNumber);
     }
     if SessionState::LAST_REMOTE < commit.remote {
-        return Stop::By(Refusal::CommitNumber);
+        return Err(Refusal::CommitNumber);
     }
-    Stop::No
+    Ok(())
 }
 
 // Messages and acks up to the record's numbers go out, messages first; a generation that was released already releases nothing.
@@ -119,7 +118,7 @@ pub fn complete(
 {
     let stop = enters(words, halves, bytes, list.len(), commit);
     match stop {
-        Stop::By(x) => link_codes::refusal(x),
-        Stop::No => finish(words, halves, bytes, clock, list, commit, persisted),
+        Err(x) => link_codes::refusal(x),
+        Ok(()) => finish(words, halves, bytes, clock, list, commit, persisted),
     }
 }

@@ -7,7 +7,6 @@ ghost use Rattle.parts.specs.Parts.{parts};
 ghost use Rattle.parts.specs.Driven.{Driven};
 ghost use Rattle.link_consumers.specs.Modes.{Readying};
 
-use events::Stop;
 use parts::{Bytes, Halves, LinkAnswer, Words};
 use rules::HostStatus;
 
@@ -62,8 +61,8 @@ pub fn consumer_ready(
         4 < mode,
     );
     match stop {
-        Stop::By(x) => link_codes::refusal(x),
-        Stop::No => ready(
+        Some(x) => link_codes::refusal(x),
+        None => ready(
             words, halves, bytes, clock, list, delivery, outbound, queue, status, mode as u8,
         ),
     }

@@ -7,7 +7,7 @@ use lib.ListN.{length, take, drop, set}
 use Rattle.rules.specs.declared.HostStatus.{HostStatus}
 use Rattle.rules.specs.declared.ReceiveMode.TheVariants.{Raw}
 use Rattle.rules.specs.Lists.{Bytes}
-use Rattle.events.specs.declared.Stop.TheVariants.{No}
+use Rattle.std.specs.Prelude.{None}
 use Rattle.events.specs.Written.{Books, books}
 use Rattle.delivery.specs.declared.Turn.{Turn}
 use Rattle.delivery.specs.Turns.{Drains}
@@ -90,8 +90,8 @@ module _ {t₀ : Turn} {w₀ h c : List ℕ} {i₀ : ℕ} {q : Bytes} {b₀ : Bo
 
   -- the turn is put together
   pub raw_ends : {status : HostStatus} → status.available ≡ true → {u : Turn} {e : DrainEnd} {w' : List ℕ} → u ≡ reached t₀ r g
-      → Drains status t₀ (waiting_in w₀) (queue_in w₀ h c) i₀ q b₀ (drained_by (reached t₀ r g) (held w k) i b.n b.at No) b.list b.delivery
-      → Left (step_to u b.n b.at) k i No w e w' → DrainsIn status t₀ i₀ w₀ h c q b₀ e w' b.list b.delivery
+      → Drains status t₀ (waiting_in w₀) (queue_in w₀ h c) i₀ q b₀ (drained_by (reached t₀ r g) (held w k) i b.n b.at None) b.list b.delivery
+      → Left (step_to u b.n b.at) k i None w e w' → DrainsIn status t₀ i₀ w₀ h c q b₀ e w' b.list b.delivery
   raw_ends {status} on {u} {e} {w'} eu d x =
       ends_in (v.turns status on)
-      (subst (λ (y : Turn). Drains status t₀ (waiting_in w₀) (queue_in w₀ h c) i₀ q b₀ (drained_by y (held w k) i b.n b.at No) b.list b.delivery) (sym eu) d) x
+      (subst (λ (y : Turn). Drains status t₀ (waiting_in w₀) (queue_in w₀ h c) i₀ q b₀ (drained_by y (held w k) i b.n b.at None) b.list b.delivery) (sym eu) d) x

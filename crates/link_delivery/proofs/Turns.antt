@@ -10,8 +10,7 @@ use Rattle.rules.specs.declared.HostStatus.{HostStatus}
 use Rattle.rules.specs.declared.Refusal.{Refusal}
 use Rattle.rules.specs.Lists.{Bytes, total, itself}
 use Rattle.rules.specs.State as R
-use Rattle.events.specs.declared.Stop.{Stop}
-use Rattle.events.specs.declared.Stop.TheVariants.{No, By}
+use Rattle.std.specs.Prelude.{Option, None, Some}
 use Rattle.events.specs.Written.{Books, books}
 use Rattle.numbers.specs.declared.Numbers.{Numbers}
 use Rattle.queue.specs.declared.Queued.{Queued}
@@ -89,7 +88,7 @@ module _ {status : HostStatus} {t₀ : Turn} {w₀ h c : List ℕ} {i₀ : ℕ} 
   room = omega (arith, v.only.size, section-room 272 w₀ v.turns.pre.waits.full)
 
   -- the count of the acks that wait is stored
-  pub ends_in : {s : Step} {z : Stop} {r : DrainEnd} {w' l' : List ℕ} {d' : Bytes}
+  pub ends_in : {s : Step} {z : Option Refusal} {r : DrainEnd} {w' l' : List ℕ} {d' : Bytes}
       → Drains status t₀ (waiting_in w₀) (queue_in w₀ h c) i₀ q b₀ (drained_by s.turn (held w k) i s.events s.at z) l' d' → Left s k i z w r w'
       → DrainsIn status t₀ i₀ w₀ h c q b₀ r w' l' d'
   ends_in {s} {z} {r} {w'} {l'} {d'} d e =
@@ -114,7 +113,7 @@ module _ {status : HostStatus} {t₀ : Turn} {w₀ h c : List ℕ} {i₀ : ℕ} 
     kind-is = ap (λ (u : Queued). u.kind) here
 
     pub later_in : (at w (16 + i) ≡ t.remote + 1 → ⊥)
-        → Drains status t₀ (waiting_in w₀) (queue_in w₀ h c) i₀ q b₀ (drained_by t (held w k) i b.n b.at No) b.list b.delivery
+        → Drains status t₀ (waiting_in w₀) (queue_in w₀ h c) i₀ q b₀ (drained_by t (held w k) i b.n b.at None) b.list b.delivery
     later_in ne = out_later v.turns l (λ e. ne (sym number_is ∙ e))
 
     module _ {len : ℕ} (el : len ≡ at h (512 + i)) where
@@ -147,7 +146,7 @@ module _ {status : HostStatus} {t₀ : Turn} {w₀ h c : List ℕ} {i₀ : ℕ} 
           (subst (λ (m : ℕ). Deliverable (at w (16 + i)) m t r) (sym kind-is) g)
 
       pub undeliverable_in : (r : Bool) → Deliverable (at w (16 + i)) (at c (512 + i)) t r → r ≡ false
-          → Drains status t₀ (waiting_in w₀) (queue_in w₀ h c) i₀ q b₀ (drained_by t (held w k) i b.n b.at No) b.list b.delivery
+          → Drains status t₀ (waiting_in w₀) (queue_in w₀ h c) i₀ q b₀ (drained_by t (held w k) i b.n b.at None) b.list b.delivery
       undeliverable_in r g e = out_undeliverable v.turns l is_next r (asked_of g) e
 
       -- a delivery
@@ -157,12 +156,12 @@ module _ {status : HostStatus} {t₀ : Turn} {w₀ h c : List ℕ} {i₀ : ℕ} 
         done : Delivered (frame_at x i a q) t b r l' d'
         done = subst (λ (f : R.Frame). Delivered f t b r l' d') (sym (frame_is el)) g
 
-        pub refused_in : (z : Refusal) → r.stop ≡ By z
-            → Drains status t₀ (waiting_in w₀) (queue_in w₀ h c) i₀ q b₀ (drained_by r.turn (held w k) i r.events r.at (By z)) l' d'
+        pub refused_in : (z : Refusal) → r.stop ≡ Some z
+            → Drains status t₀ (waiting_in w₀) (queue_in w₀ h c) i₀ q b₀ (drained_by r.turn (held w k) i r.events r.at (Some z)) l' d'
         refused_in z e = out_refused v.turns l is_next av av-is on de (asked_of de-is) yes r l' d' done z e
 
         -- its ack is stored after those that wait
-        pub more_in : r.stop ≡ No → length l' ≡ length b.list → length d' ≡ length b.delivery
+        pub more_in : r.stop ≡ None → length l' ≡ length b.list → length d' ≡ length b.delivery
             → TurnsIn status t₀ w₀ h c i₀ q b₀ r.turn (set w (272 + k) (at w (16 + i))) (k + 1) (i + 1) (a + len) (books l' r.events d' r.at)
         more_in e ll ld =
             let y : ℕ = at w (16 + i) in

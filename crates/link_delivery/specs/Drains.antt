@@ -1,10 +1,9 @@
 -- The drain of the queue in place: the acks that wait grow in the words of a session. Assumes nothing.
-use Rattle.std.specs.Prelude.{ℕ, ◌+◌, ◌≡◌, true, List, set}
+use Rattle.std.specs.Prelude.{ℕ, ◌+◌, ◌≡◌, true, List, set, Option, None}
 use Rattle.rules.specs.declared.HostStatus.{HostStatus}
 use Rattle.rules.specs.declared.ReceiveMode.TheVariants.{Raw}
 use Rattle.rules.specs.Lists.{Bytes}
-use Rattle.events.specs.declared.Stop.{Stop}
-use Rattle.events.specs.declared.Stop.TheVariants.{No}
+use Rattle.rules.specs.declared.Refusal.{Refusal}
 use Rattle.events.specs.Written.{Books}
 use Rattle.delivery.specs.declared.Turn.{Turn}
 use Rattle.delivery.specs.declared.Step.{Step}
@@ -23,11 +22,11 @@ pub record DrainsIn (status : HostStatus) (t : Turn) (i : ℕ) (w h b : List ℕ
 
 -- ---- its end
 
-abbrev pub drain_end : Turn → ℕ → ℕ → ℕ → Stop → DrainEnd
+abbrev pub drain_end : Turn → ℕ → ℕ → ℕ → Option Refusal → DrainEnd
 drain_end t i n at z = record { turn = t; taken = i; events = n; at = at; stop = z }
 
 -- the loop is left with k acks that wait, and frame i not taken
-pub record Left (s : Step) (k i : ℕ) (z : Stop) (w : List ℕ) (r : DrainEnd) (w' : List ℕ) : Type 0 where
+pub record Left (s : Step) (k i : ℕ) (z : Option Refusal) (w : List ℕ) (r : DrainEnd) (w' : List ℕ) : Type 0 where
   pub end : r ≡ drain_end s.turn i s.events s.at z
   pub words : w' ≡ set w 5 k
 
@@ -54,7 +53,7 @@ reached t n g =
     }
 
 abbrev pub step_to : Turn → ℕ → ℕ → Step
-step_to t n at = record { turn = t; events = n; at = at; stop = No }
+step_to t n at = record { turn = t; events = n; at = at; stop = None }
 
 -- a message of len bytes is delivered, whatever the turn is that has this mode, this generation after it, and this persisted one
 pub record HandedRaw (number generation persisted len : ℕ) (body : Bytes) (b : Books) (n' : ℕ) (l' : List ℕ) (d' : Bytes) : Type 0 where

@@ -8,9 +8,8 @@ ghost use Rattle.parts.specs.Parts.{queue_in, waiting_in};
 ghost use Rattle.link_delivery.specs.Drains.{DrainsIn, DrainingRaw, Left, HandedRaw, reached};
 
 use delivery::{Step, Turn};
-use events::Stop;
 use parts::{Bytes, Halves, Words};
-use rules::{HostStatus, ReceiveMode};
+use rules::{HostStatus, ReceiveMode, Refusal};
 
 // Where a drain ended: the turn, how many frames were taken from the front of the queue, the count of events, the first free byte of the delivery
 // buffer, and the refusal that ended it.
@@ -20,7 +19,7 @@ pub struct DrainEnd {
     pub taken: usize,
     pub events: usize,
     pub at: usize,
-    pub stop: Stop,
+    pub stop: Option<Refusal>,
 }
 
 // ---- in every mode
@@ -45,7 +44,7 @@ fn deliver_queued(
 }
 
 // The loop is left with k acks that wait, at the frame that is not taken.
-fn leave(words: &mut Words, k: usize, s: Step, taken: usize, stop: Stop) -> DrainEnd
+fn leave(words: &mut Words, k: usize, s: Step, taken: usize, stop: Option<Refusal>) -> DrainEnd
     ensures { Left s k taken stop words.old result words.new }
 {
     words[parts::WAITING] = k as u64;
@@ -80,7 +79,7 @@ fn drain_each(
         turn: t,
         events: n,
         at: at,
-        stop: Stop::No,
+        stop: None,
     };
     let count = words[parts::QUEUED] as usize;
     let mut k = words[parts::WAITING] as usize;
@@ -103,16 +102,16 @@ fn drain_each(
         s = deliver_queued(s, list, delivery, number, kind, store, start, len);
         let stop = s.stop;
         match stop {
-            Stop::No => {
+            None => {
                 words[parts::WAITING_NUMBERS + k] = number;
                 k += 1;
                 start += len;
                 i += 1;
             }
-            Stop::By(x) => return leave(words, k, s, i, Stop::By(x)),
+            Some(x) => return leave(words, k, s, i, Some(x)),
         }
     }
-    leave(words, k, s, i, Stop::No)
+    leave(words, k, s, i, None)
 }
 
 // ---- in Raw mode
@@ -203,9 +202,9 @@ fn drain_raw(
         turn: turn,
         events: m,
         at: a,
-        stop: Stop::No,
+        stop: None,
     };
-    leave(words, k, s, i, Stop::No)
+    leave(words, k, s, i, None)
 }
 
 // ---- the drain

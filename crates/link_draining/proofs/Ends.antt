@@ -11,7 +11,7 @@ use Rattle.rules.specs.declared.HostStatus.{HostStatus}
 use Rattle.rules.specs.declared.Refusal.{Refusal}
 use Rattle.rules.specs.Answers.{refusal_number}
 use Rattle.rules.specs.Lists.{Bytes}
-use Rattle.events.specs.declared.Stop.TheVariants.{No, By}
+use Rattle.std.specs.Prelude.{None, Some}
 use Rattle.events.specs.Written.{books}
 use Rattle.numbers.specs.declared.Numbers.{Numbers}
 use Rattle.numbers.specs.Seats.{ExactNumbers}
@@ -76,11 +76,11 @@ module _ (x : Refusal) (w h b : List ℕ) (c : Float) (l : List ℕ) (n : ℕ) (
     (good : good_codes (codes_in h b) ≡ true) where
   pub fails_in : {w' b' : List ℕ} {q' : Bytes} → Requeued [] w h b q w' h b q' → b' ≡ failed_bytes b → (m : ℕ) → m ≡ refusal_number x → {l' : List ℕ}
       → l' ≡ placed l (4 * n) (7 ∷ m ∷ 0 ∷ 0 ∷ [])
-      → Fails x (opened_of (parts w h b c)) l n q (record { session = opened_of (parts w' h b' c); events = n + 1; stop = By x }) l' q'
+      → Fails x (opened_of (parts w h b c)) l n q (record { session = opened_of (parts w' h b' c); events = n + 1; stop = Some x }) l' q'
   unfolding opened_of
   fails_in {w'} {b'} {q'} r eb m em {l'} el =
       let s : SessionState = opened_of (parts w h b c) in
-      subst (λ (z : SessionState). Fails x (opened_of (parts w h b c)) l n q (record { session = z; events = n + 1; stop = By x }) l' q')
+      subst (λ (z : SessionState). Fails x (opened_of (parts w h b c)) l n q (record { session = z; events = n + 1; stop = Some x }) l' q')
       (sym
       (ap (λ (v : List ℕ). opened_of (parts w' h v c)) eb
       ∙ marked w' h b c (omega arith) good
@@ -137,15 +137,15 @@ module _ {t : Turn} {from : ℕ} (w h b : List ℕ) (c : Float) {l : List ℕ} {
         subst (λ (z : SessionState). Abandoning r.turn (waiting_in w₁) z r.events (length l₁) (length o) (length q)) (sym others)
         (abandoning_same r.turn (waiting_in w₁) (opened_of (parts w h b c)) (waiting_in w₁) k.drains.waits (C.abandoning pre k.drains e))
 
-    pub carries_on_in : r.stop ≡ No → {r₂ : SessionState} {o' q' : Bytes}
+    pub carries_on_in : r.stop ≡ None → {r₂ : SessionState} {o' q' : Bytes}
         → Finishes r.turn (waiting_in w₁) r.taken (opened_of (parts w₁ h b c)) o q r₂ o' q'
-        → Carries status t (waiting_in w) from (opened_of (parts w h b c)) l n d at' o q (record { session = r₂; events = r.events; stop = No }) l₁ d₁ o' q'
+        → Carries status t (waiting_in w) from (opened_of (parts w h b c)) l n d at' o q (record { session = r₂; events = r.events; stop = None }) l₁ d₁ o' q'
     unfolding opened_of
     carries_on_in z {r₂} {o'} {q'} f =
         C.carries-on pre k.drains z
         (finishes_same r.turn (waiting_in w₁) (opened_of (parts w h b c)) (waiting_in w₁) (subst (λ (y : SessionState). Finishes r.turn (waiting_in w₁) r.taken y o q r₂ o' q') others f))
 
-    pub carries_not_in : (x : Refusal) → r.stop ≡ By x → {e : Ended} {l' : List ℕ} {o' q' : Bytes}
+    pub carries_not_in : (x : Refusal) → r.stop ≡ Some x → {e : Ended} {l' : List ℕ} {o' q' : Bytes}
         → Abandons x r.turn (waiting_in w₁) (opened_of (parts w₁ h b c)) l₁ r.events o q e l' o' q'
         → Carries status t (waiting_in w) from (opened_of (parts w h b c)) l n d at' o q e l' d₁ o' q'
     unfolding opened_of

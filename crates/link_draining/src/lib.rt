@@ -15,7 +15,6 @@ ghost use Rattle.link_draining.specs.Steps.{Discards, SettlesIn, Timed, Advances
 ghost use Rattle.link_draining.specs.Endings.{ended_of};
 
 use delivery::Turn;
-use events::Stop;
 use parts::{Bytes, Halves, Words, full_bytes, full_halves, full_words};
 use rules::{Clock, HostStatus, Refusal};
 
@@ -23,7 +22,7 @@ use rules::{Clock, HostStatus, Refusal};
 #[derive(Clone, Copy)]
 pub struct Ending {
     pub events: usize,
-    pub stop: Stop,
+    pub stop: Option<Refusal>,
 }
 
 // ---- a turn, and what it leaves
@@ -175,7 +174,7 @@ pub fn fail(
     events::emit(list, n, 7, number, 0, 0);
     Ending {
         events: n + 1,
-        stop: Stop::By(x),
+        stop: Some(x),
     }
 }
 
@@ -228,14 +227,14 @@ pub fn carry(
     let turn = d.turn;
     let stop = d.stop;
     match stop {
-        Stop::By(x) => abandon(
+        Some(x) => abandon(
             words, halves, bytes, clock, list, d.events, outbound, queue, turn, x,
         ),
-        Stop::No => {
+        None => {
             finish(words, halves, bytes, clock, outbound, queue, turn, d.taken);
             Ending {
                 events: d.events,
-                stop: Stop::No,
+                stop: None,
             }
         }
     }

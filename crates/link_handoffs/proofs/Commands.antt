@@ -1,5 +1,5 @@
 -- A command on the parts of a session: its tests, and the call. Assumes nothing.
-use Rattle.std.specs.Prelude.{if◌then◌else◌}
+use Rattle.std.specs.Prelude.{if◌then◌else◌, Option, None, Some}
 use Prim.Native.Nat.{ℕ, ◌≤◌, ◌<◌}
 use mathlib.Core.Path.{◌≡◌, refl, sym, ◌∙◌, subst}
 use mathlib.Core.Bool.{Bool, true, false, true≢false}
@@ -14,8 +14,6 @@ use Rattle.rules.specs.declared.Refusal.TheVariants.{ShortBuffer, BadRecord, Gen
 use Rattle.rules.specs.Lists.{Bytes}
 use Rattle.rules.specs.Handoff.{Command}
 use Rattle.rules.specs.Calls.{commands}
-use Rattle.events.specs.declared.Stop.{Stop}
-use Rattle.events.specs.declared.Stop.TheVariants.{No, By}
 use Rattle.outbox.specs.View.{ExactOutbox}
 use Rattle.peer_session.specs.View.{state_of}
 use Rattle.peer_session.specs.Sound.{sound_of, Checked}
@@ -84,15 +82,15 @@ module _ (w h b : List ℕ) (t : Float) {n m k : ℕ} (ln : 4096 ≤ n) (lm : 65
     may_command e = (record { checked = c; list = ln; outbound = lm; low = low }, e)
 
 -- what they found, by their stop
-module _ (w h b : List ℕ) (t : Float) {n m k : ℕ} {stop : Stop} (f : Enters w h b n m k stop) where
-  pub passed : stop ≡ No → Commanding (parts w h b t) n m × (k ≤ 4096)
-  passed e = subst (λ (s : Stop). Found (parts w h b t) n m k s) e (f t)
+module _ (w h b : List ℕ) (t : Float) {n m k : ℕ} {stop : Option Refusal} (f : Enters w h b n m k stop) where
+  pub passed : stop ≡ None → Commanding (parts w h b t) n m × (k ≤ 4096)
+  passed e = subst (λ (s : Option Refusal). Found (parts w h b t) n m k s) e (f t)
 
-  away : (x : Refusal) → stop ≡ By x → NotCommanding (parts w h b t) n m k x
-  away x e = subst (λ (s : Stop). Found (parts w h b t) n m k s) e (f t)
+  away : (x : Refusal) → stop ≡ Some x → NotCommanding (parts w h b t) n m k x
+  away x e = subst (λ (s : Option Refusal). Found (parts w h b t) n m k s) e (f t)
 
-pub turned : (w h b : List ℕ) (t : Float) (l : List ℕ) (o : Bytes) (restoring present : Bool) (id : ℕ) (body : Bytes) {k : ℕ} → k ≡ (if present then length body else 0) → {stop : Stop} (x : Refusal)
-    → Enters w h b (length l) (length o) k stop → stop ≡ By x → {y : LinkAnswer} → y ≡ answer_of (Refused x) 0
+pub turned : (w h b : List ℕ) (t : Float) (l : List ℕ) (o : Bytes) (restoring present : Bool) (id : ℕ) (body : Bytes) {k : ℕ} → k ≡ (if present then length body else 0) → {stop : Option Refusal} (x : Refusal)
+    → Enters w h b (length l) (length o) k stop → stop ≡ Some x → {y : LinkAnswer} → y ≡ answer_of (Refused x) 0
     → Driven (parts w h b t) (parts w h b t) y (λ s r. CalledWithOutbound (commands restoring (command_of present id body)) s l o r l o)
 turned w h b t l o restoring present id body ek x f e z =
     refuses (parts w h b t) x z (λ r u d q lq. (away w h b t f x e).call restoring present id body ek l o d q refl refl lq r u)

@@ -16,8 +16,7 @@ use Rattle.rules.specs.Lists.{Bytes}
 use Rattle.rules.specs.State as R
 use Rattle.rules.specs.Progress.{Outcome}
 use Rattle.rules.specs.Handoff.{Command}
-use Rattle.events.specs.declared.Stop.{Stop}
-use Rattle.events.specs.declared.Stop.TheVariants.{No, By}
+use Rattle.std.specs.Prelude.{Option, None, Some}
 use Rattle.events.specs.Written.{Listed, asked}
 use Rattle.outbox.specs.View.{ExactOutbox}
 use Rattle.peer_session.specs.declared.SessionState.{SessionState}
@@ -190,14 +189,14 @@ module _ (w h b : List ℕ) (t : Float) (l : List ℕ) (o body : Bytes) (id : �
   unfolding opened_of
   absent = none-there
 
-  pub stopped : {stop : Stop} {w' h' b' : List ℕ} {o' : Bytes} (x : Refusal) → AllocatesIn body w h b o stop w' h' b' o' → stop ≡ By x
+  pub stopped : {stop : Option Refusal} {w' h' b' : List ℕ} {o' : Bytes} (x : Refusal) → AllocatesIn body w h b o stop w' h' b' o' → stop ≡ Some x
       → {y : LinkAnswer} → y ≡ answer_of (Refused x) 0 → (restoring : Bool) → ComesIn (commanding restoring (some c)) (parts w h b t) (parts w' h' b' t) l o y l o'
   stopped {o' = o'} x a e {y} f restoring =
       subst (λ (g : Float → Parts). ComesIn (commanding restoring (some c)) (parts w h b t) (g t) l o y l o') (sym (a.kept x e))
       (record {
         returned = record { session = s; answer = Refused x; events = 0 };
         comes =
-            Plain.hand_stopped restoring c s l o (record { session = s; stop = By x }) o' (joins_not w h b t k s.stage.disposition ready.outbound x a e) absent x refl
+            Plain.hand_stopped restoring c s l o (record { session = s; stop = Some x }) o' (joins_not w h b t k s.stage.disposition ready.outbound x a e) absent x refl
             (record { session = refl; answer = refl; events = refl });
         leaves = refl;
         answers = f;
@@ -216,13 +215,13 @@ module _ (w h b : List ℕ) (t : Float) (l : List ℕ) (o body : Bytes) (id : �
       subst (λ (n : ℕ). HandsOver id n body (handoff_in w₂ b₂)) next_in (record { is = g.handed.is; full = g.handed.full; size = g.handed.size })
 
   module _ (lh : length h ≡ 772) where
-    goes : {w₁ h₁ b₁ : List ℕ} {o' : Bytes} (a : AllocatesIn body w h b o No w₁ h₁ b₁ o') → {w₂ b₂ : List ℕ} → HandedIn written body w₁ b₁ w₂ b₂
+    goes : {w₁ h₁ b₁ : List ℕ} {o' : Bytes} (a : AllocatesIn body w h b o None w₁ h₁ b₁ o') → {w₂ b₂ : List ℕ} → HandedIn written body w₁ b₁ w₂ b₂
         → {y : LinkAnswer} {l' : List ℕ} → AsksIn (clock_in (raised h h₁) t) l y l' → (restoring : Bool)
         → ComesIn (commanding restoring (some c)) (parts w h b t) (parts w₂ (raised h h₁) b₂ t) l o y l' o'
     goes {w₁} {h₁} {b₁} {o'} a {w₂} {b₂} g {y} {l'} q restoring =
         let lw : 1296 ≤ length w = long-words w h b t k.full in
         let lb : 4936 ≤ length b = long-bytes w h b t k.full in
-        let j : Joined = record { session = staged s.stage.disposition s.stage.setup (grown w h b t k lh a); stop = No } in
+        let j : Joined = record { session = staged s.stage.disposition s.stage.setup (grown w h b t k lh a); stop = None } in
         record {
           returned = record { session = handing (handoff_in w₂ b₂) j.session; answer = Done; events = q.events };
           comes =
@@ -234,7 +233,7 @@ module _ (w h b : List ℕ) (t : Float) (l : List ℕ) (o body : Bytes) (id : �
           answers = q.answers;
         }
 
-    pub went : {stop : Stop} {w₁ h₁ b₁ : List ℕ} {o' : Bytes} → AllocatesIn body w h b o stop w₁ h₁ b₁ o' → stop ≡ No → {w₂ b₂ : List ℕ} → HandedIn written body w₁ b₁ w₂ b₂
+    pub went : {stop : Option Refusal} {w₁ h₁ b₁ : List ℕ} {o' : Bytes} → AllocatesIn body w h b o stop w₁ h₁ b₁ o' → stop ≡ None → {w₂ b₂ : List ℕ} → HandedIn written body w₁ b₁ w₂ b₂
         → {y : LinkAnswer} {l' : List ℕ} → AsksIn (clock_in (raised h h₁) t) l y l' → (restoring : Bool)
         → ComesIn (commanding restoring (some c)) (parts w h b t) (parts w₂ (raised h h₁) b₂ t) l o y l' o'
-    went {w₁ = w₁} {h₁ = h₁} {b₁ = b₁} {o' = o'} a e g q restoring = goes (subst (λ (x : Stop). AllocatesIn body w h b o x w₁ h₁ b₁ o') e a) g q restoring
+    went {w₁ = w₁} {h₁ = h₁} {b₁ = b₁} {o' = o'} a e g q restoring = goes (subst (λ (x : Option Refusal). AllocatesIn body w h b o x w₁ h₁ b₁ o') e a) g q restoring

@@ -14,7 +14,6 @@ ghost use Rattle.parts.specs.Parts.{parts, at, flag, section, clock_in, outbox_i
 ghost use Rattle.parts.specs.Driven.{Driven};
 ghost use Rattle.link_handoffs.specs.Commands.{Commanding, Enters, Starts, ComesIn, AsksIn, HoldingIn};
 
-use events::Stop;
 use parts::{Bytes, Halves, LinkAnswer, Words};
 use peer_session::SessionState;
 use restores::Handoff;
@@ -28,25 +27,25 @@ fn enters(
     list: usize,
     outbound: usize,
     size: usize,
-) -> Stop
+) -> Option<Refusal>
     ensures { Enters words.now halves.now bytes.now list outbound size result }
 {
     if list < SessionState::EVENT_WORDS {
-        return Stop::By(Refusal::ShortBuffer);
+        return Some(Refusal::ShortBuffer);
     }
     if outbound < SessionState::OUTBOUND_BYTES {
-        return Stop::By(Refusal::ShortBuffer);
+        return Some(Refusal::ShortBuffer);
     }
     if !link_sound::sound(words, halves, bytes) {
-        return Stop::By(Refusal::BadRecord);
+        return Some(Refusal::BadRecord);
     }
     if SessionState::GENERATION_LIMIT <= halves[parts::GENERATION] {
-        return Stop::By(Refusal::GenerationsExhausted);
+        return Some(Refusal::GenerationsExhausted);
     }
     if SessionState::MAX_HANDOFF < size {
-        return Stop::By(Refusal::HandoffTooLong);
+        return Some(Refusal::HandoffTooLong);
     }
-    Stop::No
+    None
 }
 
 // A restoring command leaves setup started, also where it is refused.
@@ -185,8 +184,8 @@ fn hand_off(
     let generation = halves[parts::GENERATION];
     let stop = link_sending::allocate(words, halves, bytes, outbound, body);
     match stop {
-        Stop::By(x) => link_codes::refusal(x),
-        Stop::No => {
+        Some(x) => link_codes::refusal(x),
+        None => {
             halves[parts::GENERATION] = generation + 1;
             let given = Handoff {
                 present: true,
@@ -273,8 +272,8 @@ pub fn command(
     let size = peer_session::handoff_length(present, body.len());
     let stop = enters(words, halves, bytes, list.len(), outbound.len(), size);
     match stop {
-        Stop::By(x) => link_codes::refusal(x),
-        Stop::No => {
+        Some(x) => link_codes::refusal(x),
+        None => {
             parts::full_halves(halves);
             starting(halves, bytes, restoring);
             goes(

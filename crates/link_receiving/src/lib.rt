@@ -12,7 +12,6 @@ ghost use Rattle.parts.specs.Parts.{parts};
 ghost use Rattle.parts.specs.Driven.{Driven};
 ghost use Rattle.link_receiving.specs.Steps.{Arriving};
 
-use events::Stop;
 use link_draining::Ending;
 use parts::{Bytes, Halves, LinkAnswer, Words};
 use receiving::Verdict;
@@ -24,8 +23,8 @@ fn answered(e: Ending) -> LinkAnswer
 {
     let stop = e.stop;
     match stop {
-        Stop::No => link_codes::plain(2, 1, e.events),
-        Stop::By(x) => link_codes::answer_of(Answer::Refused(x), e.events),
+        None => link_codes::plain(2, 1, e.events),
+        Some(x) => link_codes::answer_of(Answer::Refused(x), e.events),
     }
 }
 
@@ -95,8 +94,8 @@ pub fn data(
         2 < kind,
     );
     match stop {
-        Stop::By(x) => link_codes::refusal(x),
-        Stop::No => receive(
+        Some(x) => link_codes::refusal(x),
+        None => receive(
             words, halves, bytes, clock, list, delivery, outbound, queue, status, number,
             kind as u8, body,
         ),

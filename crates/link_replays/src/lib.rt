@@ -3,50 +3,51 @@
 
 ghost use Rattle.std.specs.Prelude.{length};
 ghost use Rattle.rules.specs.Calls.{connects};
+ghost use Rattle.rules.specs.Codes.{connectivity_number};
 ghost use Rattle.session.specs.Promise.{CalledWithList};
 ghost use Rattle.parts.specs.Parts.{parts};
 ghost use Rattle.parts.specs.Driven.{Driven};
 ghost use Rattle.link_replays.specs.Connects.{Ready, Enters};
 
-use events::Stop;
 use parts::{Bytes, Halves, LinkAnswer, Words};
 use peer_session::SessionState;
-use rules::Refusal;
+use rules::{Connectivity, Refusal};
 
 // The tests of an event, in their order.
-fn enters(words: &Words, halves: &Halves, bytes: &Bytes, list: usize, event: u64) -> Stop
+fn enters(
+    words: &Words,
+    halves: &Halves,
+    bytes: &Bytes,
+    list: usize,
+    event: u64,
+) -> Result<Connectivity, Refusal>
     ensures { Enters words.now halves.now bytes.now list event result }
 {
     if list < SessionState::EVENT_WORDS {
-        return Stop::By(Refusal::ShortBuffer);
+        return Err(Refusal::ShortBuffer);
     }
-    if event < 1 {
-        return Stop::By(Refusal::UnknownCode);
-    }
-    if 5 < event {
-        return Stop::By(Refusal::UnknownCode);
-    }
+    let read = Connectivity::try_from(event)?;
     if !link_sound::sound(words, halves, bytes) {
-        return Stop::By(Refusal::BadRecord);
+        return Err(Refusal::BadRecord);
     }
-    Stop::No
+    Ok(read)
 }
 
-// An event past its tests: 1 to 3 do nothing; 4 and 5 send anew what is unacked and not pending, unless that was done a moment ago and is not forced.
+// An event past its tests: one that resends sends anew what is unacked and not pending, unless that was done a moment ago and is not forced.
 fn goes(
     words: &Words,
     halves: &Halves,
     bytes: &Bytes,
     clock: &mut f64,
     list: &mut [u64],
-    event: u64,
+    event: Connectivity,
     time: f64,
     force: bool,
 ) -> LinkAnswer
-    requires { Ready (parts words.now halves.now bytes.now clock.old) (length list.old) event }
-    ensures { Driven (parts words.now halves.now bytes.now clock.old) (parts words.now halves.now bytes.now clock.new) result (λ s y. CalledWithList (connects event time force) s list.old y list.new) }
+    requires { Ready (parts words.now halves.now bytes.now clock.old) (length list.old) (connectivity_number event) }
+    ensures { Driven (parts words.now halves.now bytes.now clock.old) (parts words.now halves.now bytes.now clock.new) result (λ s y. CalledWithList (connects (connectivity_number event) time force) s list.old y list.new) }
 {
-    if event <= 3 {
+    if !replays::resends(event) {
         return link_codes::plain(2, 1, 0);
     }
     if words[parts::UNACKED] == 0 {
@@ -73,9 +74,8 @@ pub fn connectivity(
 ) -> LinkAnswer
     ensures { Driven (parts words.now halves.now bytes.now clock.old) (parts words.now halves.now bytes.now clock.new) result (λ s y. CalledWithList (connects event time force) s list.old y list.new) }
 {
-    let stop = enters(words, halves, bytes, list.len(), event);
-    match stop {
-        Stop::By(x) => link_codes::refusal(x),
-        Stop::No => goes(words, halves, bytes, clock, list, event, time, force),
+    match enters(words, halves, bytes, list.len(), event) {
+        Err(x) => link_codes::refusal(x),
+        Ok(read) => goes(words, halves, bytes, clock, list, read, time, force),
     }
 }

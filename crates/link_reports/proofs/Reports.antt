@@ -16,8 +16,9 @@ use Rattle.rules.specs.Acks.{sent, differs_from}
 use Rattle.rules.specs.State.{State}
 use Rattle.rules.specs.Progress.{Outcome}
 use Rattle.rules.specs.Calls.{reports, step}
-use Rattle.events.specs.declared.Stop.{Stop}
-use Rattle.events.specs.declared.Stop.TheVariants.{No, By}
+use Rattle.rules.specs.declared.FrameKind.{FrameKind}
+use Rattle.rules.specs.Codes.{frame_kind_number}
+use Rattle.std.specs.Prelude.{Result, Ok, Err}
 use Rattle.numbers.specs.Seats.{in_use, Holds}
 use Rattle.outbox.specs.Sound.{sound_outbox_of}
 use Rattle.outbox.specs.Steps.{Flagged}
@@ -251,11 +252,17 @@ module _ (p : Parts) {n what : ℕ} where
       }
 
 -- a refusal by them
-pub turned : (p : Parts) (l : List ℕ) (what number : ℕ) (accepted : Bool) {r : Stop} {x : Refusal} → Found p (length l) what r → r ≡ By x
+pub turned : (p : Parts) (l : List ℕ) (what number : ℕ) (accepted : Bool) {r : Result FrameKind Refusal} {x : Refusal} → Found p (length l) what r → r ≡ Err x
     → {y : LinkAnswer} → y ≡ answer_of (Refused x) 0 → Driven p p y (λ s r. CalledWithList (reports what number accepted) s l r l)
 turned p l what number accepted {r} {x} k e f =
-    refuses p x f (λ v u. (subst (λ (z : Stop). Found p (length l) what z) e k).call l refl number accepted v u)
+    refuses p x f (λ v u. (subst (λ (z : Result FrameKind Refusal). Found p (length l) what z) e k).call l refl number accepted v u)
 
--- none
-pub fits : (w h b : List ℕ) (n what : ℕ) {r : Stop} → Enters w h b n what r → r ≡ No → Fit w h b n what
-fits w h b n what k e = subst (λ (z : Stop). Enters w h b n what z) e k
+-- none: what the report is of
+pub found-kind : (p : Parts) (n what : ℕ) {r : Result FrameKind Refusal} {kind : FrameKind} → Found p n what r → r ≡ Ok kind
+    → Ready p n what × (what ≡ frame_kind_number kind)
+found-kind p n what k e = subst (λ (z : Result FrameKind Refusal). Found p n what z) e k
+
+pub fits : (w h b : List ℕ) (n what : ℕ) (kind : FrameKind) {r : Result FrameKind Refusal} → Enters w h b n what r → r ≡ Ok kind
+    → Fit w h b n (frame_kind_number kind)
+fits w h b n what kind k e t =
+    let f = found-kind (parts w h b t) n what (k t) e in subst (λ (m : ℕ). Ready (parts w h b t) n m) f.1 f.0

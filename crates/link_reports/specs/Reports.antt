@@ -1,9 +1,9 @@
 -- The steps of a report on the parts of a session. Assumes nothing.
-use Rattle.std.specs.Prelude.{ℕ, ◌≤◌, ◌≡◌, Bool, true, List, Float, length}
+use Rattle.std.specs.Prelude.{ℕ, ◌≤◌, ◌≡◌, Bool, true, List, Float, length, Result, Ok, Err}
 use Rattle.rules.specs.declared.Refusal.{Refusal}
+use Rattle.rules.specs.declared.FrameKind.{FrameKind}
+use Rattle.rules.specs.Codes.{frame_kind_number}
 use Rattle.rules.specs.Calls.{reports}
-use Rattle.events.specs.declared.Stop.{Stop}
-use Rattle.events.specs.declared.Stop.TheVariants.{No, By}
 use Rattle.peer_session.specs.Sound.{sound_of, Full}
 use Rattle.session.specs.declared.Returned.{Returned}
 use Rattle.session.specs.Promise.{CalledWithList, Turned}
@@ -23,11 +23,12 @@ pub record Turns (p : Parts) (n what : ℕ) (x : Refusal) : Type 0 where
   pub call : (l : List ℕ) → length l ≡ n → (number : ℕ) (accepted : Bool) (r : Returned) → Turned (opened_of p) x r
       → CalledWithList (reports what number accepted) (opened_of p) l r l
 
-abbrev pub Found : Parts → ℕ → ℕ → Stop → Type 0
-Found p n what No = Ready p n what
-Found p n what (By x) = Turns p n what x
+-- what the report is of, or a refusal
+abbrev pub Found : Parts → ℕ → ℕ → Result FrameKind Refusal → Type 0
+Found p n what (Ok kind) = Ready p n what × (what ≡ frame_kind_number kind)
+Found p n what (Err x) = Turns p n what x
 
-abbrev pub Enters : List ℕ → List ℕ → List ℕ → ℕ → ℕ → Stop → Type 0
+abbrev pub Enters : List ℕ → List ℕ → List ℕ → ℕ → ℕ → Result FrameKind Refusal → Type 0
 Enters w h b n what r = (t : Float) → Found (parts w h b t) n what r
 
 -- ---- past the tests, whatever the clock's time is

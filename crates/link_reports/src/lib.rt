@@ -3,6 +3,7 @@
 
 ghost use Rattle.std.specs.Prelude.{◌≡◌, true, length};
 ghost use Rattle.rules.specs.Calls.{reports, gets_keepalive};
+ghost use Rattle.rules.specs.Codes.{frame_kind_number};
 ghost use Rattle.session.specs.Promise.{CalledWithList, ToldWithList};
 ghost use Rattle.acks.specs.Reports.{full_of, MayRetry};
 ghost use Rattle.parts.specs.Parts.{parts, retry_in};
@@ -10,27 +11,30 @@ ghost use Rattle.parts.specs.Driven.{Driven, DrivenTold};
 ghost use Rattle.link_numbers.specs.Sets.{Rising, Set};
 ghost use Rattle.link_reports.specs.Reports.{Enters, Fit, Reported, AckReported};
 
-use events::Stop;
 use parts::{Bytes, Halves, LinkAnswer, Words};
 use peer_session::SessionState;
-use rules::Refusal;
+use rules::{FrameKind, Refusal};
 
 // ---- a report of a send
 
 // The tests of a report, in their order.
-fn report_enters(words: &Words, halves: &Halves, bytes: &Bytes, list: usize, what: u64) -> Stop
+fn report_enters(
+    words: &Words,
+    halves: &Halves,
+    bytes: &Bytes,
+    list: usize,
+    what: u64,
+) -> Result<FrameKind, Refusal>
     ensures { Enters words.now halves.now bytes.now list what result }
 {
     if list < SessionState::EVENT_WORDS {
-        return Stop::By(Refusal::ShortBuffer);
+        return Err(Refusal::ShortBuffer);
     }
-    if 1 < what {
-        return Stop::By(Refusal::UnknownCode);
-    }
+    let kind = FrameKind::try_from(what)?;
     if !link_sound::sound(words, halves, bytes) {
-        return Stop::By(Refusal::BadRecord);
+        return Err(Refusal::BadRecord);
     }
-    Stop::No
+    Ok(kind)
 }
 
 // Data was accepted. The handoff's own frame requests a commit, whatever the generation.
@@ -92,20 +96,18 @@ fn reported(
     halves: &Halves,
     bytes: &mut Bytes,
     list: &mut [u64],
-    what: u64,
+    kind: FrameKind,
     number: u64,
     accepted: bool,
 ) -> LinkAnswer
-    requires { Fit words.old halves.now bytes.old (length list.old) what }
-    ensures { Reported what number accepted words.old halves.now bytes.old list.old words.new bytes.new list.new result }
+    requires { Fit words.old halves.now bytes.old (length list.old) (frame_kind_number kind) }
+    ensures { Reported (frame_kind_number kind) number accepted words.old halves.now bytes.old list.old words.new bytes.new list.new result }
 {
-    if what == 0 {
-        if accepted {
-            return data_sent(words, halves, bytes, list, number);
-        }
-        return link_codes::plain(0, 0, 0);
+    match kind {
+        FrameKind::Data if accepted => data_sent(words, halves, bytes, list, number),
+        FrameKind::Data => link_codes::plain(0, 0, 0),
+        FrameKind::Ack => ack_sent(words, number, accepted),
     }
-    ack_sent(words, number, accepted)
 }
 
 // Whether a send was accepted: what is 0 of data, 1 of an ack.
@@ -121,10 +123,9 @@ pub fn report(
 ) -> LinkAnswer
     ensures { Driven (parts words.old halves.now bytes.old clock.now) (parts words.new halves.now bytes.new clock.now) result (λ s y. CalledWithList (reports what number accepted) s list.old y list.new) }
 {
-    let stop = report_enters(words, halves, bytes, list.len(), what);
-    match stop {
-        Stop::By(x) => link_codes::refusal(x),
-        Stop::No => reported(words, halves, bytes, list, what, number, accepted),
+    match report_enters(words, halves, bytes, list.len(), what) {
+        Err(x) => link_codes::refusal(x),
+        Ok(kind) => reported(words, halves, bytes, list, kind, number, accepted),
     }
 }
 

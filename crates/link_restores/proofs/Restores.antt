@@ -1,5 +1,5 @@
 -- A restore on the parts of a session, by what it leaves of them. Assumes nothing.
-use Rattle.std.specs.Prelude.{if◌then◌else◌}
+use Rattle.std.specs.Prelude.{if◌then◌else◌, Result, Ok, Err}
 use Prim.Native.Nat.{ℕ, ◌+◌, ◌≤◌, ◌<◌}
 use mathlib.Core.Path.{◌≡◌, refl, sym, ap, ◌∙◌, subst}
 use mathlib.Core.Bool.{Bool, true, false, not, ◌&&◌, true≢false}
@@ -13,8 +13,6 @@ use Rattle.rules.specs.declared.Refusal.{Refusal}
 use Rattle.rules.specs.declared.Refusal.TheVariants.{ShortBuffer, UnknownCode, BadRecord, HandoffTooLong, RestoreTooLate, OtherHandoff}
 use Rattle.rules.specs.Lists.{Bytes, total, itself}
 use Rattle.rules.specs.Start.{good_record, handoff_size, agrees}
-use Rattle.events.specs.declared.Stop.{Stop}
-use Rattle.events.specs.declared.Stop.TheVariants.{No, By}
 use Rattle.outbox.specs.declared.Outbox.{Outbox}
 use Rattle.outbox.specs.View.{end_u}
 use Rattle.peer_session.specs.declared.Stage.{Stage}
@@ -82,13 +80,13 @@ pub turned : (x : Reliable) (ns ks : List ℕ) (bodies : Bytes) (given : Handoff
 turned x ns ks bodies given body p o z k e = refuses p z e (λ r u. k.call o refl r u)
 
 -- what the tests found, by their stop
-module _ (x : Reliable) (ns ks : List ℕ) (bodies : Bytes) (given : Handoff) (body : Bytes) (w h b : List ℕ) (t : Float) {n : ℕ} {stop : Stop}
+module _ (x : Reliable) (ns ks : List ℕ) (bodies : Bytes) (given : Handoff) (body : Bytes) (w h b : List ℕ) (t : Float) {n : ℕ} {stop : Result (Unit {0}) Refusal}
     (f : Enters x ns ks bodies given body w h b n stop) where
-  pub passed : stop ≡ No → Ready x ns ks bodies given body (parts w h b t) n
-  passed e = subst (λ (s : Stop). Found x ns ks bodies given body (parts w h b t) n s) e (f t)
+  pub passed : stop ≡ Ok tt → Ready x ns ks bodies given body (parts w h b t) n
+  passed e = subst (λ (s : Result (Unit {0}) Refusal). Found x ns ks bodies given body (parts w h b t) n s) e (f t)
 
-  pub away : (z : Refusal) → stop ≡ By z → Turns x ns ks bodies given body (parts w h b t) n z
-  away z e = subst (λ (s : Stop). Found x ns ks bodies given body (parts w h b t) n s) e (f t)
+  pub away : (z : Refusal) → stop ≡ Err z → Turns x ns ks bodies given body (parts w h b t) n z
+  away z e = subst (λ (s : Result (Unit {0}) Refusal). Found x ns ks bodies given body (parts w h b t) n s) e (f t)
 
 -- ---- the stage with another disposition
 

@@ -1,10 +1,8 @@
 -- The tests of a restore on the parts of a session, in their order. Assumes nothing.
-use Rattle.std.specs.Prelude.{ℕ, ◌≤◌, ◌≡◌, true, false, not, ◌&&◌, List, eqb, Float, length}
+use Rattle.std.specs.Prelude.{ℕ, ◌≤◌, ◌≡◌, true, false, not, ◌&&◌, List, eqb, Float, length, Result, Ok, Err}
 use Rattle.rules.specs.declared.Refusal.{Refusal}
 use Rattle.rules.specs.Lists.{Bytes}
 use Rattle.rules.specs.Start.{good_record, handoff_size}
-use Rattle.events.specs.declared.Stop.{Stop}
-use Rattle.events.specs.declared.Stop.TheVariants.{No, By}
 use Rattle.peer_session.specs.Sound.{sound_of, Full}
 use Rattle.session.specs.declared.Returned.{Returned}
 use Rattle.session.specs.Promise.{Turned}
@@ -29,9 +27,9 @@ module _ (x : Reliable) (ns ks : List ℕ) (bodies : Bytes) (given : Handoff) (b
   pub record Turns (p : Parts) (n : ℕ) (z : Refusal) : Type 0 where
     pub call : (o : Bytes) → length o ≡ n → (r : Returned) → Turned (opened_of p) z r → Restored x ns ks bodies given body (opened_of p) o r o
 
-  abbrev pub Found : Parts → ℕ → Stop → Type 0
-  Found p n No = Ready p n
-  Found p n (By z) = Turns p n z
+  abbrev pub Found : Parts → ℕ → Result (Unit {0}) Refusal → Type 0
+  Found p n (Ok tt) = Ready p n
+  Found p n (Err z) = Turns p n z
 
-  abbrev pub Enters : List ℕ → List ℕ → List ℕ → ℕ → Stop → Type 0
+  abbrev pub Enters : List ℕ → List ℕ → List ℕ → ℕ → Result (Unit {0}) Refusal → Type 0
   Enters w h b n r = (t : Float) → Found (parts w h b t) n r

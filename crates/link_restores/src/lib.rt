@@ -13,7 +13,6 @@ ghost use Rattle.link_starts.specs.Steps.{TakingIn, TakenIn};
 ghost use Rattle.link_restores.specs.Handed.{HandedIn};
 ghost use Rattle.link_restores.specs.Restores.{Ready, Enters};
 
-use events::Stop;
 use parts::{Bytes, Halves, LinkAnswer, Words};
 use peer_session::SessionState;
 use restores::Handoff;
@@ -97,33 +96,33 @@ fn enters(
     bodies: &[u8],
     given: Handoff,
     body: &[u8],
-) -> Stop
+) -> Result<(), Refusal>
     ensures { Enters «record» numbers.now lengths.now bodies.now given body.now words.now halves.now bytes.now outbound result }
 {
     if outbound < SessionState::OUTBOUND_BYTES {
-        return Stop::By(Refusal::ShortBuffer);
+        return Err(Refusal::ShortBuffer);
     }
     if starts::short_record(numbers, lengths, bodies) {
-        return Stop::By(Refusal::ShortBuffer);
+        return Err(Refusal::ShortBuffer);
     }
     if 4 < record.disposition {
-        return Stop::By(Refusal::UnknownCode);
+        return Err(Refusal::UnknownCode);
     }
     if !link_sound::sound(words, halves, bytes) {
-        return Stop::By(Refusal::BadRecord);
+        return Err(Refusal::BadRecord);
     }
     if !starts::good_record(record, numbers, lengths) {
-        return Stop::By(Refusal::BadRecord);
+        return Err(Refusal::BadRecord);
     }
     if SessionState::MAX_HANDOFF < peer_session::handoff_length(given.present, body.len()) {
-        return Stop::By(Refusal::HandoffTooLong);
+        return Err(Refusal::HandoffTooLong);
     }
     let queued = words[parts::QUEUED] as usize;
     let waiting = words[parts::WAITING] as usize;
     if restores::too_late(halves[parts::GENERATION], queued, waiting) {
-        return Stop::By(Refusal::RestoreTooLate);
+        return Err(Refusal::RestoreTooLate);
     }
-    Stop::No
+    Ok(())
 }
 
 // A restore past its tests. Refused by 31 it has taken the record.
@@ -182,8 +181,8 @@ pub fn restore(
         body,
     );
     match stop {
-        Stop::By(x) => link_codes::refusal(x),
-        Stop::No => goes(
+        Err(x) => link_codes::refusal(x),
+        Ok(()) => goes(
             words, halves, bytes, clock, outbound, record, numbers, lengths, bodies, given, body,
         ),
     }

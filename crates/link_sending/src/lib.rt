@@ -9,28 +9,27 @@ ghost use Rattle.parts.specs.Parts.{parts, outbox_in};
 ghost use Rattle.parts.specs.Driven.{Driven};
 ghost use Rattle.link_sending.specs.Sends.{Ready, Enters, AllocatesIn};
 
-use events::Stop;
 use parts::{Bytes, Halves, LinkAnswer, Words, full_halves};
 use peer_session::SessionState;
 use rules::Refusal;
 
 // The tests of a send, in their order.
-fn enters(words: &Words, halves: &Halves, bytes: &Bytes, list: usize, outbound: usize) -> Stop
+fn enters(words: &Words, halves: &Halves, bytes: &Bytes, list: usize, outbound: usize) -> Option<Refusal>
     ensures { Enters words.now halves.now bytes.now list outbound result }
 {
     if list < SessionState::EVENT_WORDS {
-        return Stop::By(Refusal::ShortBuffer);
+        return Some(Refusal::ShortBuffer);
     }
     if outbound < SessionState::OUTBOUND_BYTES {
-        return Stop::By(Refusal::ShortBuffer);
+        return Some(Refusal::ShortBuffer);
     }
     if !link_sound::sound(words, halves, bytes) {
-        return Stop::By(Refusal::BadRecord);
+        return Some(Refusal::BadRecord);
     }
     if SessionState::GENERATION_LIMIT <= halves[parts::GENERATION] {
-        return Stop::By(Refusal::GenerationsExhausted);
+        return Some(Refusal::GenerationsExhausted);
     }
-    Stop::No
+    None
 }
 
 // `peer_session::allocate`: a message gets the next number and joins the unacked as pending, or is refused.
@@ -40,23 +39,23 @@ pub fn allocate(
     bytes: &mut Bytes,
     store: &mut [u8],
     body: &[u8],
-) -> Stop
+) -> Option<Refusal>
     requires { ExactOutbox (outbox_in words.old halves.old bytes.old) (length store.old) }
     ensures { AllocatesIn body.now words.old halves.old bytes.old store.old result words.new halves.new bytes.new store.new }
 {
     if SessionState::LAST_MESSAGE < words[parts::NEXT] {
-        return Stop::By(Refusal::NumbersExhausted);
+        return Some(Refusal::NumbersExhausted);
     }
     let count = words[parts::UNACKED] as usize;
     if SessionState::MAX_UNACKED <= count {
-        return Stop::By(Refusal::UnackedFull);
+        return Some(Refusal::UnackedFull);
     }
     let at = link_outbox::used(halves, count);
     if SessionState::OUTBOUND_BYTES - at < body.len() {
-        return Stop::By(Refusal::UnackedFull);
+        return Some(Refusal::UnackedFull);
     }
     link_outbox::append(words, halves, bytes, store, at, body);
-    Stop::No
+    None
 }
 
 // A send past its tests.
@@ -77,8 +76,8 @@ fn goes(
     let generation = halves[parts::GENERATION];
     let stop = allocate(words, halves, bytes, outbound, body);
     match stop {
-        Stop::By(x) => link_codes::refusal(x),
-        Stop::No => {
+        Some(x) => link_codes::refusal(x),
+        None => {
             halves[parts::GENERATION] = generation + 1;
             let k = link_codes::clock_in(halves, clock);
             let n = events::request(k, list, 0);
@@ -101,7 +100,7 @@ pub fn send(
 {
     let stop = enters(words, halves, bytes, list.len(), outbound.len());
     match stop {
-        Stop::By(x) => link_codes::refusal(x),
-        Stop::No => goes(words, halves, bytes, clock, list, outbound, body),
+        Some(x) => link_codes::refusal(x),
+        None => goes(words, halves, bytes, clock, list, outbound, body),
     }
 }

@@ -12,8 +12,7 @@ use Rattle.rules.specs.declared.Refusal.{Refusal}
 use Rattle.rules.specs.declared.Refusal.TheVariants.{ShortBuffer, BadRecord, GenerationsExhausted}
 use Rattle.rules.specs.Lists.{Bytes}
 use Rattle.rules.specs.Calls.{rejects}
-use Rattle.events.specs.declared.Stop.{Stop}
-use Rattle.events.specs.declared.Stop.TheVariants.{No, By}
+use Rattle.std.specs.Prelude.{Option, None, Some}
 use Rattle.events.specs.Written.{Listed, asked}
 use Rattle.peer_session.specs.declared.RejectBody.{RejectBody}
 use Rattle.peer_session.specs.View.{state_of}
@@ -69,14 +68,14 @@ module _ (w h b : List ℕ) (t : Float) {n m : ℕ} (ln : 4096 ≤ n) (lm : 6553
   may_reject e = record { checked = k; list = ln; outbound = lm; low = e }
 
 -- what they found, by their stop
-module _ (w h b : List ℕ) (t : Float) {n m : ℕ} {stop : Stop} (f : RejectEnters w h b n m stop) where
-  pub passed : stop ≡ No → Rejecting (parts w h b t) n m
-  passed e = subst (λ (s : Stop). RejectFound (parts w h b t) n m s) e (f t)
+module _ (w h b : List ℕ) (t : Float) {n m : ℕ} {stop : Option Refusal} (f : RejectEnters w h b n m stop) where
+  pub passed : stop ≡ None → Rejecting (parts w h b t) n m
+  passed e = subst (λ (s : Option Refusal). RejectFound (parts w h b t) n m s) e (f t)
 
-  away : (x : Refusal) → stop ≡ By x → NotRejecting (parts w h b t) n m x
-  away x e = subst (λ (s : Stop). RejectFound (parts w h b t) n m s) e (f t)
+  away : (x : Refusal) → stop ≡ Some x → NotRejecting (parts w h b t) n m x
+  away x e = subst (λ (s : Option Refusal). RejectFound (parts w h b t) n m s) e (f t)
 
-pub turned : (w h b : List ℕ) (t : Float) (l : List ℕ) (o : Bytes) {stop : Stop} (x : Refusal) → RejectEnters w h b (length l) (length o) stop → stop ≡ By x
+pub turned : (w h b : List ℕ) (t : Float) (l : List ℕ) (o : Bytes) {stop : Option Refusal} (x : Refusal) → RejectEnters w h b (length l) (length o) stop → stop ≡ Some x
     → {y : LinkAnswer} → y ≡ answer_of (Refused x) 0 → Driven (parts w h b t) (parts w h b t) y (λ s r. CalledWithOutbound rejects s l o r l o)
 turned w h b t l o x f e z = refuses (parts w h b t) x z (λ r u d q lq. (away w h b t f x e).call l o d q refl refl lq r u)
 
@@ -95,7 +94,7 @@ module _ (w h b : List ℕ) (t : Float) (l : List ℕ) (o : Bytes) (ready : Reje
   abbrev body : Bytes
   body = take (at w 14) (reject_in w b).bytes
 
-  rejects_it : (lh : length h ≡ 772) {w' h' b' : List ℕ} {o' : Bytes} → AllocatesIn body w h b o No w' h' b' o' → (l' : List ℕ) (n : ℕ)
+  rejects_it : (lh : length h ≡ 772) {w' h' b' : List ℕ} {o' : Bytes} → AllocatesIn body w h b o None w' h' b' o' → (l' : List ℕ) (n : ℕ)
       → Listed (asked (clock_in (raised h h') t)) l 0 l' n → {y : LinkAnswer} → y ≡ answer_of Done n
       → Driven (parts w h b t) (parts w' (raised h h') (set b' 768 4) t) y (λ s r. CalledWithOutbound rejects s l o r l' o')
   unfolding opened_of
@@ -108,18 +107,18 @@ module _ (w h b : List ℕ) (t : Float) (l : List ℕ) (o : Bytes) (ready : Reje
       not_taken' : {A : Type 0} → true ≡ false → A
       not_taken' e = not_taken (sym e)
 
-  pub went : (lh : length h ≡ 772) (j : RejectBody) → j ≡ reject_in w b → {stop : Stop} {w' h' b' : List ℕ} {o' : Bytes}
-      → AllocatesIn (take j.len j.bytes) w h b o stop w' h' b' o' → stop ≡ No → (c : Clock) → c ≡ clock_in (raised h h') t → (l' : List ℕ) (n : ℕ)
+  pub went : (lh : length h ≡ 772) (j : RejectBody) → j ≡ reject_in w b → {stop : Option Refusal} {w' h' b' : List ℕ} {o' : Bytes}
+      → AllocatesIn (take j.len j.bytes) w h b o stop w' h' b' o' → stop ≡ None → (c : Clock) → c ≡ clock_in (raised h h') t → (l' : List ℕ) (n : ℕ)
       → Listed (asked c) l 0 l' n → {y : LinkAnswer} → y ≡ answer_of Done n
       → Driven (parts w h b t) (parts w' (raised h h') (set b' 768 4) t) y (λ s r. CalledWithOutbound rejects s l o r l' o')
   went lh j ej {w' = w'} {h' = h'} {b' = b'} {o' = o'} a e c ec l' n li f =
       rejects_it lh
-      (subst (λ (x : RejectBody). AllocatesIn (take x.len x.bytes) w h b o No w' h' b' o') ej
-      (subst (λ (x : Stop). AllocatesIn (take j.len j.bytes) w h b o x w' h' b' o') e a))
+      (subst (λ (x : RejectBody). AllocatesIn (take x.len x.bytes) w h b o None w' h' b' o') ej
+      (subst (λ (x : Option Refusal). AllocatesIn (take j.len j.bytes) w h b o x w' h' b' o') e a))
       l' n (subst (λ (x : Clock). Listed (asked x) l 0 l' n) ec li) f
 
-  pub stopped : (j : RejectBody) → j ≡ reject_in w b → {stop : Stop} {w' h' b' : List ℕ} {o' : Bytes} (x : Refusal)
-      → AllocatesIn (take j.len j.bytes) w h b o stop w' h' b' o' → stop ≡ By x → {y : LinkAnswer} → y ≡ answer_of (Refused x) 0
+  pub stopped : (j : RejectBody) → j ≡ reject_in w b → {stop : Option Refusal} {w' h' b' : List ℕ} {o' : Bytes} (x : Refusal)
+      → AllocatesIn (take j.len j.bytes) w h b o stop w' h' b' o' → stop ≡ Some x → {y : LinkAnswer} → y ≡ answer_of (Refused x) 0
       → Driven (parts w h b t) (parts w' h' b' t) y (λ s r. CalledWithOutbound rejects s l o r l o')
   unfolding opened_of
   stopped j ej {stop} {w'} {h'} {b'} {o'} x a e {y} f =

@@ -1,13 +1,11 @@
 -- The steps of a setup on the parts of a session. Assumes nothing.
-use Rattle.std.specs.Prelude.{ℕ, ◌≤◌, ◌<◌, ◌≡◌, true, List, Float, length, set}
+use Rattle.std.specs.Prelude.{ℕ, ◌≤◌, ◌<◌, ◌≡◌, true, List, Float, length, set, Option, None, Some}
 use Rattle.rules.specs.declared.Refusal.{Refusal}
 use Rattle.rules.specs.declared.Terms.{Terms}
 use Rattle.rules.specs.Lists.{Bytes}
 use Rattle.rules.specs.Answers.{flag_value}
 use Rattle.rules.specs.Setup.{is_none}
 use Rattle.rules.specs.Calls.{accepts, rejects}
-use Rattle.events.specs.declared.Stop.{Stop}
-use Rattle.events.specs.declared.Stop.TheVariants.{No, By}
 use Rattle.peer_session.specs.Sound.{Checked}
 use Rattle.session.specs.declared.Returned.{Returned}
 use Rattle.session.specs.Promise.{lent, Called, Turned}
@@ -31,11 +29,11 @@ pub record NotAccepting (p : Parts) (terms : Terms) (n : ℕ) (x : Refusal) : Ty
   pub call : (l : List ℕ) (o b d q : Bytes) → length o ≡ n → 32768 ≤ length q → (r : Returned) → Turned (opened_of p) x r
       → Called (accepts terms b) (opened_of p) (lent l d o q) r (lent l d o q)
 
-abbrev pub AcceptFound : Parts → Terms → ℕ → Stop → Type 0
-AcceptFound p terms n No = Accepting p terms n
-AcceptFound p terms n (By x) = NotAccepting p terms n x
+abbrev pub AcceptFound : Parts → Terms → ℕ → Option Refusal → Type 0
+AcceptFound p terms n None = Accepting p terms n
+AcceptFound p terms n (Some x) = NotAccepting p terms n x
 
-abbrev pub AcceptEnters : Terms → List ℕ → List ℕ → List ℕ → ℕ → Stop → Type 0
+abbrev pub AcceptEnters : Terms → List ℕ → List ℕ → List ℕ → ℕ → Option Refusal → Type 0
 AcceptEnters terms w h b n r = (t : Float) → AcceptFound (parts w h b t) terms n r
 
 -- ---- reject: the same, for a list of n words and an outbound store of m bytes
@@ -50,9 +48,9 @@ pub record NotRejecting (p : Parts) (n m : ℕ) (x : Refusal) : Type 0 where
   pub call : (l : List ℕ) (o d q : Bytes) → length l ≡ n → length o ≡ m → 32768 ≤ length q → (r : Returned) → Turned (opened_of p) x r
       → Called rejects (opened_of p) (lent l d o q) r (lent l d o q)
 
-abbrev pub RejectFound : Parts → ℕ → ℕ → Stop → Type 0
-RejectFound p n m No = Rejecting p n m
-RejectFound p n m (By x) = NotRejecting p n m x
+abbrev pub RejectFound : Parts → ℕ → ℕ → Option Refusal → Type 0
+RejectFound p n m None = Rejecting p n m
+RejectFound p n m (Some x) = NotRejecting p n m x
 
-abbrev pub RejectEnters : List ℕ → List ℕ → List ℕ → ℕ → ℕ → Stop → Type 0
+abbrev pub RejectEnters : List ℕ → List ℕ → List ℕ → ℕ → ℕ → Option Refusal → Type 0
 RejectEnters w h b n m r = (t : Float) → RejectFound (parts w h b t) n m r

@@ -8,7 +8,6 @@ ghost use Rattle.parts.specs.Parts.{parts};
 ghost use Rattle.parts.specs.Driven.{Driven};
 ghost use Rattle.link_setup.specs.Steps.{Stages, Accepting, AcceptEnters, Rejecting, RejectEnters};
 
-use events::Stop;
 use parts::{Bytes, Halves, LinkAnswer, Words};
 use peer_session::SessionState;
 use rules::{Refusal, Terms};
@@ -65,28 +64,28 @@ fn accept_enters(
     bytes: &Bytes,
     outbound: usize,
     terms: Terms,
-) -> Stop
+) -> Option<Refusal>
     ensures { AcceptEnters terms words.now halves.now bytes.now outbound result }
 {
     if outbound < SessionState::OUTBOUND_BYTES {
-        return Stop::By(Refusal::ShortBuffer);
+        return Some(Refusal::ShortBuffer);
     }
     if !link_sound::sound(words, halves, bytes) {
-        return Stop::By(Refusal::BadRecord);
+        return Some(Refusal::BadRecord);
     }
     if SessionState::GENERATION_LIMIT <= halves[parts::GENERATION] {
-        return Stop::By(Refusal::GenerationsExhausted);
+        return Some(Refusal::GenerationsExhausted);
     }
     if bytes[parts::SETUP] != 0 {
-        return Stop::By(Refusal::AlreadyAccepted);
+        return Some(Refusal::AlreadyAccepted);
     }
     if !terms.initiator {
-        return Stop::No;
+        return None;
     }
     if words[parts::NEXT] != 1 {
-        return Stop::By(Refusal::ProposalNotFirst);
+        return Some(Refusal::ProposalNotFirst);
     }
-    Stop::No
+    None
 }
 
 // An initiator's proposal is sent first.
@@ -106,8 +105,8 @@ fn propose(
     let generation = halves[parts::GENERATION];
     let stop = link_sending::allocate(words, halves, bytes, outbound, body);
     match stop {
-        Stop::By(x) => link_codes::refusal(x),
-        Stop::No => {
+        Some(x) => link_codes::refusal(x),
+        None => {
             halves[parts::GENERATION] = generation + 1;
             stage(halves, bytes, 1, 1, terms);
             link_codes::plain(0, 0, 0)
@@ -150,8 +149,8 @@ pub fn accept(
 {
     let stop = accept_enters(words, halves, bytes, outbound.len(), terms);
     match stop {
-        Stop::By(x) => link_codes::refusal(x),
-        Stop::No => accepted(words, halves, bytes, clock, outbound, terms, body),
+        Some(x) => link_codes::refusal(x),
+        None => accepted(words, halves, bytes, clock, outbound, terms, body),
     }
 }
 
@@ -164,22 +163,22 @@ fn reject_enters(
     bytes: &Bytes,
     list: usize,
     outbound: usize,
-) -> Stop
+) -> Option<Refusal>
     ensures { RejectEnters words.now halves.now bytes.now list outbound result }
 {
     if list < SessionState::EVENT_WORDS {
-        return Stop::By(Refusal::ShortBuffer);
+        return Some(Refusal::ShortBuffer);
     }
     if outbound < SessionState::OUTBOUND_BYTES {
-        return Stop::By(Refusal::ShortBuffer);
+        return Some(Refusal::ShortBuffer);
     }
     if !link_sound::sound(words, halves, bytes) {
-        return Stop::By(Refusal::BadRecord);
+        return Some(Refusal::BadRecord);
     }
     if SessionState::GENERATION_LIMIT <= halves[parts::GENERATION] {
-        return Stop::By(Refusal::GenerationsExhausted);
+        return Some(Refusal::GenerationsExhausted);
     }
-    Stop::No
+    None
 }
 
 // The session's reject body is sent.
@@ -201,8 +200,8 @@ fn send_reject(
     let len = j.len;
     let stop = link_sending::allocate(words, halves, bytes, outbound, &body[..len]);
     match stop {
-        Stop::By(x) => link_codes::refusal(x),
-        Stop::No => {
+        Some(x) => link_codes::refusal(x),
+        None => {
             halves[parts::GENERATION] = generation + 1;
             bytes[parts::DISPOSITION] = 4;
             let k = link_codes::clock_in(halves, clock);
@@ -225,7 +224,7 @@ pub fn reject(
 {
     let stop = reject_enters(words, halves, bytes, list.len(), outbound.len());
     match stop {
-        Stop::By(x) => link_codes::refusal(x),
-        Stop::No => send_reject(words, halves, bytes, clock, list, outbound),
+        Some(x) => link_codes::refusal(x),
+        None => send_reject(words, halves, bytes, clock, list, outbound),
     }
 }

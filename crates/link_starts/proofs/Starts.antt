@@ -17,8 +17,7 @@ use Rattle.rules.specs.declared.ReceiveMode.TheVariants.{Raw}
 use Rattle.rules.specs.Lists.{Bytes, total, itself}
 use Rattle.rules.specs.Start.{start}
 use Rattle.rules.specs.Buffers.{filled}
-use Rattle.events.specs.declared.Stop.{Stop}
-use Rattle.events.specs.declared.Stop.TheVariants.{No, By}
+use Rattle.std.specs.Prelude.{Result, Ok, Err}
 use Rattle.stores.specs.Placed.{placed}
 use Rattle.stores.proofs.Laws.{length-placed, drop-placed}
 use Rattle.outbox.specs.declared.Outbox.{Outbox}
@@ -64,13 +63,13 @@ module _ (x : Reliable) (ns ks : List ℕ) (bodies : Bytes) (policy : Policy) (r
       is-good f = record { outbound = lo; queue = lq; good = sym e ∙ f }
 
 -- what the tests found, by their stop
-module _ (x : Reliable) (ns ks : List ℕ) (bodies : Bytes) (policy : Policy) (reject : Bytes) {n m : ℕ} {stop : Stop}
+module _ (x : Reliable) (ns ks : List ℕ) (bodies : Bytes) (policy : Policy) (reject : Bytes) {n m : ℕ} {stop : Result (Unit {0}) Refusal}
     (f : FoundStart x ns ks bodies policy reject n m stop) where
-  pub passed : stop ≡ No → Judged x ns ks bodies policy reject n m
-  passed e = subst (λ (s : Stop). FoundStart x ns ks bodies policy reject n m s) e f
+  pub passed : stop ≡ Ok tt → Judged x ns ks bodies policy reject n m
+  passed e = subst (λ (s : Result (Unit {0}) Refusal). FoundStart x ns ks bodies policy reject n m s) e f
 
-  pub away : (z : Refusal) → stop ≡ By z → NotGood x ns ks bodies policy reject n m z
-  away z e = subst (λ (s : Stop). FoundStart x ns ks bodies policy reject n m s) e f
+  pub away : (z : Refusal) → stop ≡ Err z → NotGood x ns ks bodies policy reject n m z
+  away z e = subst (λ (s : Result (Unit {0}) Refusal). FoundStart x ns ks bodies policy reject n m s) e f
 
 -- the session that a refused start of the plain driver hands out
 abbrev nothing-there : SessionState

@@ -1,11 +1,9 @@
 -- The steps of a start on the parts of a session. Assumes nothing.
-use Rattle.std.specs.Prelude.{ℕ, ◌+◌, ◌≤◌, ◌<◌, ◌≡◌, List, [], ◌∷◌, length, take}
+use Rattle.std.specs.Prelude.{ℕ, ◌+◌, ◌≤◌, ◌<◌, ◌≡◌, List, [], ◌∷◌, length, take, Result, Ok, Err}
 use Rattle.rules.specs.declared.Policy.{Policy}
 use Rattle.rules.specs.declared.Refusal.{Refusal}
 use Rattle.rules.specs.Lists.{Bytes}
 use Rattle.rules.specs.Start.{start}
-use Rattle.events.specs.declared.Stop.{Stop}
-use Rattle.events.specs.declared.Stop.TheVariants.{No, By}
 use Rattle.session.specs.declared.Returned.{Returned}
 use Rattle.starts.specs.declared.Reliable.{Reliable}
 use Rattle.starts.specs.declared.Verdict.TheVariants as Verdicts
@@ -24,9 +22,9 @@ module _ (x : Reliable) (ns ks : List ℕ) (bodies : Bytes) (policy : Policy) (r
   pub record NotGood (z : Refusal) : Type 0 where
     pub call : (o q : Bytes) → length o ≡ n → length q ≡ m → (r : Returned) → NotStarted z r → Started x ns ks bodies policy reject o q r o q
 
-  abbrev pub FoundStart : Stop → Type 0
-  FoundStart No = Judged
-  FoundStart (By z) = NotGood z
+  abbrev pub FoundStart : Result (Unit {0}) Refusal → Type 0
+  FoundStart (Ok tt) = Judged
+  FoundStart (Err z) = NotGood z
 
 -- ---- what is written
 

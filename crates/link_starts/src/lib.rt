@@ -10,7 +10,6 @@ ghost use Rattle.parts.specs.Driven.{DrivenStart};
 ghost use Rattle.link_starts.specs.Steps.{Written, TakingIn, TakenIn};
 ghost use Rattle.link_starts.specs.Starts.{head, Judged, FoundStart, BodyIn};
 
-use events::Stop;
 use parts::{Bytes, Halves, LinkAnswer, Words};
 use peer_session::SessionState;
 use rules::{Policy, Refusal};
@@ -73,19 +72,19 @@ fn judge(
     bodies: &[u8],
     policy: Policy,
     reject: &[u8],
-) -> Stop
+) -> Result<(), Refusal>
     ensures { FoundStart «record» numbers.now lengths.now bodies.now policy reject.now outbound queue result }
 {
     if outbound < SessionState::OUTBOUND_BYTES {
-        return Stop::By(Refusal::ShortBuffer);
+        return Err(Refusal::ShortBuffer);
     }
     if queue < SessionState::QUEUE_BYTES {
-        return Stop::By(Refusal::ShortBuffer);
+        return Err(Refusal::ShortBuffer);
     }
     let found = starts::judge(record, numbers, lengths, bodies, policy, reject);
     match found {
-        Verdict::Refused(x) => Stop::By(x),
-        Verdict::Good => Stop::No,
+        Verdict::Refused(x) => Err(x),
+        Verdict::Good => Ok(()),
     }
 }
 
@@ -219,8 +218,8 @@ pub fn start(
         reject,
     );
     match stop {
-        Stop::By(x) => link_codes::refusal(x),
-        Stop::No => starts_it(
+        Err(x) => link_codes::refusal(x),
+        Ok(()) => starts_it(
             words, halves, bytes, clock, record, numbers, lengths, bodies, policy, reject,
             outbound, queue,
         ),

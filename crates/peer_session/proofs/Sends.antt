@@ -18,7 +18,7 @@ use Rattle.rules.specs.Progress.{stays, halts}
 use Rattle.rules.specs.Sending.{fresh, numbered, allocate}
 use Rattle.rules.specs.Buffers.{repacked}
 use Rattle.rules.proofs.Buffers.{repacked-same}
-use Rattle.events.specs.declared.Stop.TheVariants.{No, By}
+use Rattle.std.specs.Prelude.{None, Some}
 use Rattle.outbox.specs.declared.Outbox.{Outbox}
 use Rattle.outbox.specs.View.{end_u, unacked_of, outbox_of, ExactOutbox}
 use Rattle.outbox.specs.Steps.{Appended}
@@ -59,7 +59,7 @@ module _ (b : Bytes) (d : ℕ) (t : R.State) where
 
 module _ (b : Bytes) (x : Outbox) (o : Bytes) (exact : ExactOutbox x (length o)) where
   -- a refusal, whichever test gave it
-  refuses : (y : Refusal) → ((t : R.State) (d : ℕ) → t.outbox ≡ outbox_of x o → allocate b d t ≡ halts y t) → Allocates b x o (record { outbox = x; stop = By y }) o
+  refuses : (y : Refusal) → ((t : R.State) (d : ℕ) → t.outbox ≡ outbox_of x o → allocate b d t ≡ halts y t) → Allocates b x o (record { outbox = x; stop = Some y }) o
   refuses y f =
       record {
         does = f;
@@ -69,17 +69,17 @@ module _ (b : Bytes) (x : Outbox) (o : Bytes) (exact : ExactOutbox x (length o))
         kept = λ z e. refl;
       }
 
-  pub spent : 4294967295 < x.next → Allocates b x o (record { outbox = x; stop = By NumbersExhausted }) o
+  pub spent : 4294967295 < x.next → Allocates b x o (record { outbox = x; stop = Some NumbersExhausted }) o
   spent h = refuses NumbersExhausted (λ t d e. allocate_spent b d t (rw e h))
 
   module _ (l : x.next ≤ 4294967295) where
-    pub many : 256 ≤ x.count → Allocates b x o (record { outbox = x; stop = By UnackedFull }) o
+    pub many : 256 ≤ x.count → Allocates b x o (record { outbox = x; stop = Some UnackedFull }) o
     many h = refuses UnackedFull (λ t d e. allocate-many b d t (rw e l) (rw e (omega (arith, exact-count x o exact))))
 
-    pub long : 65536 < end_u x + length b → Allocates b x o (record { outbox = x; stop = By UnackedFull }) o
+    pub long : 65536 < end_u x + length b → Allocates b x o (record { outbox = x; stop = Some UnackedFull }) o
     long h = refuses UnackedFull (λ t d e. allocate-long b d t (rw e l) (rw e (omega (arith, exact-total x o exact))))
 
-    pub joins : x.count < 256 → end_u x + length b ≤ 65536 → (r : Outbox) (o' : Bytes) → Appended x o b r o' → Allocates b x o (record { outbox = r; stop = No }) o'
+    pub joins : x.count < 256 → end_u x + length b ≤ 65536 → (r : Outbox) (o' : Bytes) → Appended x o b r o' → Allocates b x o (record { outbox = r; stop = None }) o'
     unfolding numbered
     joins few room r o' a =
         let us : unacked_of r o' ≡ unacked_of x o ++ (fresh x.next b ∷ []) = a.repacked.unacked in

@@ -12,7 +12,6 @@ ghost use Rattle.peer_session.specs.View.{held};
 ghost use Rattle.peer_session.specs.Sound.{sound_acks, sound_sizes, Checked};
 ghost use Rattle.peer_session.specs.New.{New, nothing, NoMessages, NoFrames, NoHandoff};
 
-use events::Stop;
 use numbers::Numbers;
 use outbox::{Outbox, Unacked};
 use queue::{Queue, Queued};
@@ -211,7 +210,7 @@ pub fn no_handoff() -> TerminalHandoff
 #[derive(Clone, Copy)]
 pub struct Allocated {
     pub outbox: Outbox,
-    pub stop: Stop,
+    pub stop: Option<Refusal>,
 }
 
 // A message gets the next number, and joins the unacked as pending.
@@ -222,26 +221,26 @@ pub fn allocate(o: Outbox, store: &mut [u8], body: &[u8]) -> Allocated
     if SessionState::LAST_MESSAGE < o.next {
         return Allocated {
             outbox: o,
-            stop: Stop::By(Refusal::NumbersExhausted),
+            stop: Some(Refusal::NumbersExhausted),
         };
     }
     if SessionState::MAX_UNACKED <= o.count {
         return Allocated {
             outbox: o,
-            stop: Stop::By(Refusal::UnackedFull),
+            stop: Some(Refusal::UnackedFull),
         };
     }
     let at = outbox::used(o);
     if SessionState::OUTBOUND_BYTES - at < body.len() {
         return Allocated {
             outbox: o,
-            stop: Stop::By(Refusal::UnackedFull),
+            stop: Some(Refusal::UnackedFull),
         };
     }
     let more = outbox::append(o, store, at, body);
     Allocated {
         outbox: more,
-        stop: Stop::No,
+        stop: None,
     }
 }
 

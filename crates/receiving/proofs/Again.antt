@@ -1,5 +1,5 @@
 -- A duplicate. Assumes nothing.
-use Rattle.std.specs.Prelude.{if◌then◌else◌}
+use Rattle.std.specs.Prelude.{if◌then◌else◌, None}
 use mathlib.Core.Path.{◌≡◌, refl, sym, ap, ◌∙◌}
 use mathlib.Core.Bool.{Bool}
 use mathlib.Core.List.{List, [], ◌∷◌}
@@ -12,7 +12,6 @@ use Rattle.rules.specs.Events.{answer_ack, listed}
 use Rattle.rules.specs.Progress.{Progress, goes, stays, ◌then◌, request}
 use Rattle.rules.specs.Receiving.{receive_again, awaiting}
 use Rattle.rules.specs.Buffers.{flat}
-use Rattle.events.specs.declared.Stop.TheVariants.{No}
 use Rattle.events.specs.Written.{Listed, asked, books, final, ends}
 use Rattle.events.proofs.Laws.{then_goes, write-none}
 use Rattle.numbers.specs.declared.Numbers.{Numbers}
@@ -26,9 +25,9 @@ use Rattle.draining.proofs.Failing.{listed-books, fresh-books}
 -- ---- a commit is requested, in the books
 
 pub asked-final : (us : List Unacked) (t : State) {l l' : List ℕ} {n n' : ℕ} (d : Bytes) (at : ℕ) → Listed (asked t.clock) l n l' n'
-    → final us (request t) (books l n d at) ≡ ends No t (books l' n' d at)
+    → final us (request t) (books l n d at) ≡ ends None t (books l' n' d at)
 unfolding request
-asked-final us t {l} {l'} {n} {n'} d at h = ap (ends No t) (write-asked t.clock (books l n d at) l' n' h us)
+asked-final us t {l} {l'} {n} {n'} d at h = ap (ends None t) (write-asked t.clock (books l n d at) l' n' h us)
 
 -- ---- answered, or it waits
 
@@ -38,7 +37,7 @@ answer-listed n l l' e us = record { count = refl; words = λ at. e }
 
 module _ (n : ℕ) (s : SessionState) (l : List ℕ) where
   pub answers-again : (l₁ l' : List ℕ) (k : ℕ) → n ≤ s.released → l₁ ≡ placed l (4 * 0) (10 ∷ n ∷ 0 ∷ 0 ∷ []) → Listed (asked s.clock) l₁ 1 l' k
-      → Acknowledges n s l (record { session = s; events = k; stop = No }) l'
+      → Acknowledges n s l (record { session = s; events = k; stop = None }) l'
   unfolding packed
   answers-again l₁ l' k h e a =
       record {
@@ -46,8 +45,8 @@ module _ (n : ℕ) (s : SessionState) (l : List ℕ) where
             let t : State = state_of s o q in
             let r : receive_again n t ≡ goes t (answer_ack n ∷ []) =
             ap {B = Progress} (λ (b : Bool). if b then goes t (answer_ack n ∷ []) else stays (awaiting n t)) (le-leb n s.released h) in
-            let w : final us (receive_again n t) (books l 0 d 0) ≡ ends No t (books l₁ 1 d 0) =
-            ap (λ (p : Progress). final us p (books l 0 d 0)) r ∙ ap (ends No t) (listed-books us d 0 refl (answer-listed n l l₁ e us)) in
+            let w : final us (receive_again n t) (books l 0 d 0) ≡ ends None t (books l₁ 1 d 0) =
+            ap (λ (p : Progress). final us p (books l 0 d 0)) r ∙ ap (ends None t) (listed-books us d 0 refl (answer-listed n l l₁ e us)) in
             then_goes us (receive_again n t) request (books l 0 d 0) (books l₁ 1 d 0) t (fresh-books l d) w ∙ asked-final us t d 0 a;
         stop = refl;
         exact = λ a b x. x;
@@ -72,7 +71,7 @@ module _ (n : ℕ) (s : SessionState) (l : List ℕ) where
       }
 
   pub waits-again : (w : Numbers) (l' : List ℕ) (k : ℕ) → s.released < n → Holds (put itself n (in_use s.waiting)) w → Listed (asked s.clock) l 0 l' k
-      → Acknowledges n s l (record { session = next w; events = k; stop = No }) l'
+      → Acknowledges n s l (record { session = next w; events = k; stop = None }) l'
   waits-again w l' k h p a =
       record {
         does = λ o q d us.
@@ -84,8 +83,8 @@ module _ (n : ℕ) (s : SessionState) (l : List ℕ) where
             ap {B = State}
             (λ (ns : List ℕ). record { outbox = t.outbox; inbox = record { remote = t.inbox.remote; released = t.inbox.released; queue = t.inbox.queue; waiting = ns; retry = t.inbox.retry }; clock = t.clock; stage = t.stage; fixed = t.fixed })
             (sym p.held) in
-            let w : final us (receive_again n t) (books l 0 d 0) ≡ ends No u (books l 0 d 0) =
-            ap (λ (p : Progress). final us p (books l 0 d 0)) (r ∙ ap stays e) ∙ ap (ends No u) (write-none us (books l 0 d 0)) in
+            let w : final us (receive_again n t) (books l 0 d 0) ≡ ends None u (books l 0 d 0) =
+            ap (λ (p : Progress). final us p (books l 0 d 0)) (r ∙ ap stays e) ∙ ap (ends None u) (write-none us (books l 0 d 0)) in
             then_goes us (receive_again n t) request (books l 0 d 0) (books l 0 d 0) u (fresh-books l d) w ∙ asked-final us u d 0 a;
         stop = refl;
         exact = λ a b x.

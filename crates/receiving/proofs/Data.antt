@@ -19,8 +19,7 @@ use Rattle.rules.specs.Buffers.{takes, taken_by, wrong_code, repacked, queue_end
 use Rattle.rules.proofs.Lists.{length-packed}
 use Rattle.rules.proofs.Buffers.{repacked-same}
 use Rattle.rules.proofs.Sound.{parts-sound, awaiting-sound}
-use Rattle.events.specs.declared.Stop.{Stop}
-use Rattle.events.specs.declared.Stop.TheVariants.{By}
+use Rattle.std.specs.Prelude.{Option, Some}
 use Rattle.events.specs.Written.{books, final, ends}
 use Rattle.events.proofs.Laws.{write-none}
 use Rattle.numbers.specs.Seats.{ExactNumbers}
@@ -66,8 +65,8 @@ data_known status f h = le-ltb 2 f.kind h
 
 -- ---- the answer
 
-pub answered_as : (e : Ended) (y : Stop) → e.stop ≡ y → record { session = e.session; answer = told (Flag true) y; events = e.events } ≡ returned e
-answered_as e y h = ap {B = Returned} (λ (z : Stop). record { session = e.session; answer = told (Flag true) z; events = e.events }) (sym h)
+pub answered_as : (e : Ended) (y : Option Refusal) → e.stop ≡ y → record { session = e.session; answer = told (Flag true) y; events = e.events } ≡ returned e
+answered_as e y h = ap {B = Returned} (λ (z : Option Refusal). record { session = e.session; answer = told (Flag true) z; events = e.events }) (sym h)
 
 -- ---- past the tests at the entry
 
@@ -126,7 +125,7 @@ module _ (status : HostStatus) (f : Frame) (s : SessionState) (l : List ℕ) (d 
     pub failed_by : {x : Refusal} {r : Returned} {y : Ended} {l' : List ℕ} {q' : Bytes} → v ≡ Fail x → Fails x s l 0 q y l' q' → r ≡ returned y → Called c s (lent l d o q) r (lent l' d o q')
     failed_by {x} e fl re =
         comes (Fail x) e (halts x S) refl (stores_at (Fail x) e ended (fails_stores fl o exact))
-        (λ us. fails_final fl us (halts x S) (books l 0 d 0) d 0 o (frames_of s.queue q) (fresh-books l d) (ap (ends (By x) S) (write-none us (books l 0 d 0)))) re
+        (λ us. fails_final fl us (halts x S) (books l 0 d 0) d 0 o (frames_of s.queue q) (fresh-books l d) (ap (ends (Some x) S) (write-none us (books l 0 d 0)))) re
 
     kept-stores : {y : Ended} {l' : List ℕ} → Acknowledges f.number s l y l' → Stores s (end_q s.queue) o q y.session o q
     kept-stores {y} h =
@@ -154,7 +153,7 @@ module _ (status : HostStatus) (f : Frame) (s : SessionState) (l : List ℕ) (d 
         comes Again e (again f.number S) refl (stores_at Again e ended (kept-stores h))
         (λ us.
         failing-goes us (again f.number S) (books l 0 d 0) (books l' y.events d 0) (state_of y.session o q) (h.does o q d us)
-        ∙ ap (λ (z : Stop). ends z (state_of y.session o q) (books l' y.events d 0)) (sym h.stop)) re
+        ∙ ap (λ (z : Option Refusal). ends z (state_of y.session o q) (books l' y.events d 0)) (sym h.stop)) re
 
     pub new-fits : v ≡ New → Receiving f s l d o q
     new-fits e =

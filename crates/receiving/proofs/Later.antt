@@ -1,5 +1,5 @@
 -- Data that waits in the queue. Assumes nothing.
-use Rattle.std.specs.Prelude.{if◌then◌else◌}
+use Rattle.std.specs.Prelude.{if◌then◌else◌, None, Some}
 use mathlib.Core.Path.{◌≡◌, refl, sym, ap, ◌∙◌, subst}
 use mathlib.Core.Bool.{Bool, true, false, not}
 use mathlib.Core.List.{List, [], ◌∷◌, ◌++◌}
@@ -22,7 +22,6 @@ use Rattle.rules.specs.Receiving.{up_to, queued, queue_full, queue_overrun, enqu
 use Rattle.rules.specs.Buffers.{repacked, queue_end}
 use Rattle.rules.proofs.Lists.{total-append, length-packed}
 use Rattle.rules.proofs.Sound.{Sound, parts-sound}
-use Rattle.events.specs.declared.Stop.TheVariants.{No, By}
 use Rattle.events.specs.Written.{Listed, asked, books, final, ends}
 use Rattle.events.proofs.Laws.{then_goes, then_stops, write-none}
 use Rattle.queue.specs.declared.Queue.{Queue}
@@ -134,7 +133,7 @@ module _ {status : HostStatus} {t : Turn} {f : Frame} {s : SessionState} {l : Li
             fails_final a us (anew status f S) (books l 0 d 0) d 0 o fs (fresh-books l d)
             (then_stops us (receive_new status f S then request) (drain status) (books l 0 d 0) (books l 0 d 0) x S
             (then_stops us (receive_new status f S) request (books l 0 d 0) (books l 0 d 0) x S
-            (ap (λ (p : Progress). final us p (books l 0 d 0)) (is-enqueue ∙ h) ∙ ap (ends (By x) S) (write-none us (books l 0 d 0)))));
+            (ap (λ (p : Progress). final us p (books l 0 d 0)) (is-enqueue ∙ h) ∙ ap (ends (Some x) S) (write-none us (books l 0 d 0)))));
         stores = stored-end rc (reach-is (end_q s.queue) (k ∙ ended)) (fails_stores a o rc.exact);
       }
 
@@ -171,7 +170,7 @@ module _ {status : HostStatus} {t : Turn} {f : Frame} {s : SessionState} {l : Li
           does = λ us.
               c'.does us (receive_new status f S then request) (books l 0 d 0) (fresh-books l d)
               (then_goes us (receive_new status f S) request (books l 0 d 0) (books l 0 d 0) S (fresh-books l d)
-              (ap (λ (p : Progress). final us p (books l 0 d 0)) (is-enqueue ∙ enqueue-kept f S z) ∙ ap (ends No S) (write-none us (books l 0 d 0)))
+              (ap (λ (p : Progress). final us p (books l 0 d 0)) (is-enqueue ∙ enqueue-kept f S z) ∙ ap (ends None S) (write-none us (books l 0 d 0)))
               ∙ asked-final us S d 0 li);
           stores = stored-end rc (reach-is (end_q s.queue) (ap (λ (b : Bool). if every (not b ∷ not (queue_full S) ∷ not (queue_overrun f S) ∷ []) then queue_end S + length f.body else queue_end S) z ∙ ended)) c'.stores;
         }
@@ -215,14 +214,14 @@ module _ {status : HostStatus} {t : Turn} {f : Frame} {s : SessionState} {l : Li
           abbrev T : State
           T = state_of r o q₁
 
-          came : (us : List R.Unacked) → final us (receive_new status f S) (books l 0 d 0) ≡ ends No T (books l 0 d 0)
+          came : (us : List R.Unacked) → final us (receive_new status f S) (books l 0 d 0) ≡ ends None T (books l 0 d 0)
           came us =
               ap (λ (p : Progress). final us p (books l 0 d 0)) (is-enqueue ∙ enqueue-joins f S new room' short')
-              ∙ ap (ends No (queue_is (put frame_number f fs) S)) (write-none us (books l 0 d 0))
-              ∙ ap (λ (gs : List Frame). ends No (queue_is gs S) (books l 0 d 0)) (sym h.frames)
+              ∙ ap (ends None (queue_is (put frame_number f fs) S)) (write-none us (books l 0 d 0))
+              ∙ ap (λ (gs : List Frame). ends None (queue_is gs S) (books l 0 d 0)) (sym h.frames)
 
           joined : Sound T
-          joined = leaves-final [] Sound (receive_new status f S) (books l 0 d 0) (books l 0 d 0) No T (new-sound rc status) (came [])
+          joined = leaves-final [] Sound (receive_new status f S) (books l 0 d 0) (books l 0 d 0) None T (new-sound rc status) (came [])
 
           exact : Exact r (length o) (length q₁)
           exact =

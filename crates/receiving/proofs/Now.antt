@@ -19,8 +19,7 @@ use Rattle.rules.specs.Sound.{sound_fixed}
 use Rattle.rules.proofs.Lists.{every_true}
 use Rattle.rules.proofs.Progress.{Leaves}
 use Rattle.rules.proofs.Sound.{Sound, sound-parts, parts-sound, room_for, receive-new-sound}
-use Rattle.events.specs.declared.Stop.{Stop}
-use Rattle.events.specs.declared.Stop.TheVariants.{No, By}
+use Rattle.std.specs.Prelude.{Option, None, Some}
 use Rattle.events.specs.Written.{Listed, asked, books, final, ends}
 use Rattle.events.proofs.Laws.{then_goes, then_stops}
 use Rattle.numbers.specs.declared.Numbers.{Numbers}
@@ -104,23 +103,23 @@ module _ {status : HostStatus} {t : Turn} {f : Frame} {s : SessionState} {l : Li
         ap (λ (p : Progress). final us p (books l 0 d 0)) (new_delivers status f S pre.is)
         ∙ (subst (λ (z : Turn). Delivered f z (books l 0 d 0) a l₁ d₁) pre.turn h).does S gs (in_use s.waiting) us (begins s o q pre.receiving.exact)
 
-    came_by : (y : Stop) → a.stop ≡ y → (us : List R.Unacked) → final us (receive_new status f S) (books l 0 d 0)
+    came_by : (y : Option Refusal) → a.stop ≡ y → (us : List R.Unacked) → final us (receive_new status f S) (books l 0 d 0)
         ≡ ends y (during S (left_by y f.number gs) (acked_by y f.number (in_use s.waiting)) a.turn) (books l₁ a.events d₁ a.at)
     came_by y e us =
         came us
-        ∙ ap (λ (z : Stop). ends z (during S (left_by z f.number gs) (acked_by z f.number (in_use s.waiting)) a.turn) (books l₁ a.events d₁ a.at)) e
+        ∙ ap (λ (z : Option Refusal). ends z (during S (left_by z f.number gs) (acked_by z f.number (in_use s.waiting)) a.turn) (books l₁ a.events d₁ a.at)) e
 
-    after : (y : Stop) → a.stop ≡ y → Sound (during S (left_by y f.number gs) (acked_by y f.number (in_use s.waiting)) a.turn)
+    after : (y : Option Refusal) → a.stop ≡ y → Sound (during S (left_by y f.number gs) (acked_by y f.number (in_use s.waiting)) a.turn)
     after y e =
         leaves-final [] Sound (receive_new status f S) (books l 0 d 0) (books l₁ a.events d₁ a.at) y _ (new-sound pre.receiving status) (came_by y e [])
 
     -- ---- refused
 
-    module _ (x : Refusal) (z : a.stop ≡ By x) where
+    module _ (x : Refusal) (z : a.stop ≡ Some x) where
       pub now_abandoning : length l₁ ≡ length l → Abandoning a.turn s.waiting s a.events (length l₁) (length o) (length q)
       now_abandoning e =
           record {
-            settling = settling s o q a.turn gs (in_use s.waiting) pre.receiving.exact under (after (By x) z);
+            settling = settling s o q a.turn gs (in_use s.waiting) pre.receiving.exact under (after (Some x) z);
             exact = pre.receiving.exact;
             waits = pre.receiving.exact.rest.waiting;
             room = omega (arith, h.few, pre.receiving.listed);
@@ -133,15 +132,15 @@ module _ {status : HostStatus} {t : Turn} {f : Frame} {s : SessionState} {l : Li
             does = λ us.
                 b.does us (anew status f S) (books l 0 d 0) gs d₁ a.at (fresh-books l d)
                 (then_stops us (receive_new status f S then request) (drain status) (books l 0 d 0) (books l₁ a.events d₁ a.at) x (during S gs (in_use s.waiting) a.turn)
-                (then_stops us (receive_new status f S) request (books l 0 d 0) (books l₁ a.events d₁ a.at) x (during S gs (in_use s.waiting) a.turn) (came_by (By x) z us)));
+                (then_stops us (receive_new status f S) request (books l 0 d 0) (books l₁ a.events d₁ a.at) x (during S gs (in_use s.waiting) a.turn) (came_by (Some x) z us)));
             stores = stored-end pre.receiving reach-is b.stores;
           }
 
     -- ---- taken
 
-    module _ (z : a.stop ≡ No) where
+    module _ (z : a.stop ≡ None) where
       pub put-fits : (s.waiting.count ≤ 512) × (length (put itself f.number (in_use s.waiting)) ≤ 512)
-      put-fits = (pre.receiving.exact.rest.waiting.few, omega (arith, (after No z).1.room))
+      put-fits = (pre.receiving.exact.rest.waiting.few, omega (arith, (after None z).1.room))
 
       pub request-room : length l₁ ≡ length l → 4 * a.events + 4 ≤ length l₁
       request-room e = omega (arith, h.few, pre.receiving.listed)
@@ -167,7 +166,7 @@ module _ {status : HostStatus} {t : Turn} {f : Frame} {s : SessionState} {l : Li
               record {
                 exact = pre.receiving.exact;
                 under = under;
-                good = parts-sound there (subst Sound there-is (after No z));
+                good = parts-sound there (subst Sound there-is (after None z));
                 frames = (good pre.receiving).1.frames;
                 waits = p.exact;
                 within = ld.within;
@@ -185,7 +184,7 @@ module _ {status : HostStatus} {t : Turn} {f : Frame} {s : SessionState} {l : Li
                 does = λ us.
                     c.does us (receive_new status f S then request) (books l 0 d 0) (fresh-books l d)
                     (then_goes us (receive_new status f S) request (books l 0 d 0) (books l₁ a.events d₁ a.at) there (fresh-books l d)
-                    (came_by No z us ∙ ap (λ (y : State). ends No y (books l₁ a.events d₁ a.at)) there-is)
+                    (came_by None z us ∙ ap (λ (y : State). ends None y (books l₁ a.events d₁ a.at)) there-is)
                     ∙ asked-final us there d₁ a.at li);
                 stores = stored-end pre.receiving reach-is c.stores;
               }

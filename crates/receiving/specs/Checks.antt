@@ -1,5 +1,5 @@
 -- What becomes of data, by the checks past its kind and the generation, and what the stores reach by it. Assumes nothing.
-use Rattle.std.specs.Prelude.{ℕ, ◌+◌, ◌≤◌, ◌<◌, ◌≡◌, Bool, true, false, not, ◌||◌, List, [], ◌∷◌, length, if◌then◌else◌}
+use Rattle.std.specs.Prelude.{ℕ, ◌+◌, ◌≤◌, ◌<◌, ◌≡◌, Bool, true, false, not, ◌||◌, List, [], ◌∷◌, length, if◌then◌else◌, None}
 use Rattle.rules.specs.declared.HostStatus.{HostStatus}
 use Rattle.rules.specs.declared.Refusal.TheVariants.{BodyTooLong, GapTooWide, LastNumber, AcksFull}
 use Rattle.rules.specs.declared.Answer.TheVariants.{Flag, Refused}
@@ -9,7 +9,6 @@ use Rattle.rules.specs.Progress.{Progress, ◌then◌, request, halts, failing, 
 use Rattle.rules.specs.Receiving.{duplicate, queued, too_long, too_far, past_last, acks_full, queue_full, queue_overrun, terminal, drain, receive_again, at_once, from_ahead, receive_new}
 use Rattle.rules.specs.Sound.{sound}
 use Rattle.rules.specs.Buffers.{queue_end}
-use Rattle.events.specs.declared.Stop.TheVariants.{No}
 use Rattle.events.specs.Written.{books, final, ends}
 use Rattle.numbers.specs.Seats.{in_use, ExactNumbers}
 use Rattle.queue.specs.View.{ExactQueue}
@@ -72,8 +71,8 @@ Checked n len s r = (o q b : Bytes) (k : ℕ) → ExactQueue s.queue (length q) 
 
 -- a duplicate
 pub record Acknowledges (n : ℕ) (s : SessionState) (l : List ℕ) (r : Ended) (l' : List ℕ) : Type 0 where
-  pub does : (o q d : Bytes) (us : List Unacked) → final us (again n (state_of s o q)) (books l 0 d 0) ≡ ends No (state_of r.session o q) (books l' r.events d 0)
-  pub stop : r.stop ≡ No
+  pub does : (o q d : Bytes) (us : List Unacked) → final us (again n (state_of s o q)) (books l 0 d 0) ≡ ends None (state_of r.session o q) (books l' r.events d 0)
+  pub stop : r.stop ≡ None
   pub exact : (a b : ℕ) → Exact s a b → Exact r.session a b
   pub outbox : r.session.outbox ≡ s.outbox
   pub queue : r.session.queue ≡ s.queue

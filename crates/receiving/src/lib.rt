@@ -12,7 +12,6 @@ ghost use Rattle.receiving.specs.Calls.{returned};
 
 use delivery::Turn;
 use draining::Ended;
-use events::Stop;
 use peer_session::SessionState;
 use rules::{Answer, HostStatus, ReceiveMode, Refusal};
 use session::Returned;
@@ -92,7 +91,7 @@ fn receive_again(s: SessionState, list: &mut [u64], number: u64) -> Ended
         return Ended {
             session: s,
             events: n,
-            stop: Stop::No,
+            stop: None,
         };
     }
     let w = s.waiting;
@@ -103,7 +102,7 @@ fn receive_again(s: SessionState, list: &mut [u64], number: u64) -> Ended
     Ended {
         session: r,
         events: n,
-        stop: Stop::No,
+        stop: None,
     }
 }
 
@@ -156,8 +155,8 @@ fn take_now(
     let w = s.waiting;
     let stop = a.stop;
     match stop {
-        Stop::By(x) => draining::abandon(s, list, a.events, outbound, queue, turn, w, x),
-        Stop::No => {
+        Some(x) => draining::abandon(s, list, a.events, outbound, queue, turn, w, x),
+        None => {
             let acks = numbers::put(w, number);
             let q = s.queue;
             let from = queue::up_to(q, number);
@@ -240,12 +239,12 @@ fn answered(e: Ended) -> Returned
     let s = e.session;
     let stop = e.stop;
     match stop {
-        Stop::No => Returned {
+        None => Returned {
             session: s,
             answer: Answer::Flag(true),
             events: e.events,
         },
-        Stop::By(x) => Returned {
+        Some(x) => Returned {
             session: s,
             answer: Answer::Refused(x),
             events: e.events,

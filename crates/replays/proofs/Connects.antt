@@ -1,5 +1,6 @@
 -- `connectivity`, test by test. Assumes nothing.
 use mathlib.Core.Path.{◌≡◌, refl, ◌∙◌}
+use mathlib.Core.Logic.{◌⊎◌, inl, inr}
 use mathlib.Core.Bool.{Bool, true, false, not, ◌&&◌}
 use mathlib.Core.List.{List, []}
 use Prim.Native.Nat.{ℕ, ◌≤◌, ◌<◌}
@@ -51,15 +52,19 @@ module _ (e : ℕ) (time : Float) (f : Bool) where
   unfolding wrong_code
   known = known-code
 
-  pub code_below : e < 1 → wrong_code (connects e time f) ≡ true
+  code_below : e < 1 → wrong_code (connects e time f) ≡ true
   unfolding wrong_code
   code_below h = rw (lt-leb 1 e h)
 
-  pub code-above : 5 < e → wrong_code (connects e time f) ≡ true
+  code-above : 5 < e → wrong_code (connects e time f) ≡ true
   unfolding wrong_code
   code-above h =
       let l : 1 ≤ e = omega arith in
       rw (le-leb 1 e l, lt-leb e 5 h)
+
+  pub bad_code : (e ≡ 0) ⊎ (5 < e) → wrong_code (connects e time f) ≡ true
+  bad_code (inl z) = code_below (omega (arith, z))
+  bad_code (inr h) = code-above h
 
   -- ---- the rule
 

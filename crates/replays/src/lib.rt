@@ -1,17 +1,30 @@
 // Replays: the Rust's `connectivity` (session.rs, peer_session.rs).
 #![tactic(auto)]
 
-ghost use Rattle.std.specs.Prelude.{◌≡◌, not, ◌&&◌, ◌≤◌, length};
+ghost use Rattle.std.specs.Prelude.{◌≡◌, not, ◌&&◌, ◌≤◌, leb, length};
 ghost use Rattle.rules.specs.Calls.{connects};
 ghost use Rattle.rules.specs.Clock.{held_back};
+ghost use Rattle.rules.specs.Codes.{connectivity_number};
 ghost use Rattle.session.specs.Promise.{CalledWithList};
 ghost use Rattle.replays.specs.Connects.{Noted, Replayed};
 
 use peer_session::SessionState;
-use rules::{Answer, Refusal};
+use rules::{Answer, Connectivity, Refusal};
 use session::Returned;
 
-// 1 disconnected, 2 reconnected, 3 peer-unavailable: nothing is done.
+// Whether an event sends anew what is unacked; the others do nothing.
+pub fn resends(event: Connectivity) -> bool
+    ensures { result ≡ leb 4 (connectivity_number event) }
+{
+    match event {
+        Connectivity::Disconnected | Connectivity::Reconnected | Connectivity::PeerUnavailable => {
+            false
+        }
+        Connectivity::Registered | Connectivity::PeerAvailable => true,
+    }
+}
+
+// Nothing is done.
 fn noted(s: SessionState) -> Returned
     ensures { Noted s result }
 {
@@ -35,7 +48,7 @@ pub fn too_soon(time: f64, last: f64, force: bool) -> bool
     clock::held_back(time, last)
 }
 
-// 4 registered, 5 peer-available: what is unacked and not pending is sent anew, unless that was done a moment ago and is not forced.
+// What is unacked and not pending is sent anew, unless that was done a moment ago and is not forced.
 fn replayed(s: SessionState, list: &mut [u64], time: f64, force: bool) -> Returned
     requires { 4096 ≤ length list.old }
     ensures { Replayed time force s list.old result list.new }
@@ -81,9 +94,9 @@ pub fn connectivity(
     if list.len() < SessionState::EVENT_WORDS {
         return session::refused(s, Refusal::ShortBuffer);
     }
-    match event {
-        1..=3 => noted(s),
-        4..=5 => replayed(s, list, time, force),
-        _ => session::refused(s, Refusal::UnknownCode),
+    match Connectivity::try_from(event) {
+        Ok(event) if resends(event) => replayed(s, list, time, force),
+        Ok(_) => noted(s),
+        Err(x) => session::refused(s, x),
     }
 }

@@ -16,8 +16,7 @@ use Rattle.rules.specs.Progress.{stays, halts, request, outcome}
 use Rattle.rules.specs.Sending.{allocate, send}
 use Rattle.rules.specs.Calls.{sends, step}
 use Rattle.rules.specs.Buffers.{taken_by, short, wrong_code, queue_reach, repacked}
-use Rattle.events.specs.declared.Stop.{Stop}
-use Rattle.events.specs.declared.Stop.TheVariants.{No, By}
+use Rattle.std.specs.Prelude.{Option, None, Some}
 use Rattle.events.specs.Written.{Listed, asked, ended}
 use Rattle.outbox.specs.View.{unacked_of, outbox_of}
 use Rattle.outbox.proofs.View.{exact-total}
@@ -81,13 +80,13 @@ module _ (s : SessionState) (l : List ℕ) (o b d q : Bytes) where
       exhausted t h = is_refused (sends b) s (lent l d o q) long known t sound in_order refl (spent b (state_of s o q) h)
 
       module _ (h : s.clock.generation < 4294966000) (a : Allocated) (o' : Bytes) (done : Allocates b s.outbox o a o') where
-        pub refused : {r : Returned} (x : Refusal) → Turned s x r → a.stop ≡ By x → Called (sends b) s (lent l d o q) r (lent l d o' q)
+        pub refused : {r : Returned} (x : Refusal) → Turned s x r → a.stop ≡ Some x → Called (sends b) s (lent l d o q) r (lent l d o' q)
         unfolding queue_reach
         refused {r} x t e =
             let k : o' ≡ o = done.kept x e in
             let f : allocate b s.stage.disposition (state_of s o q) ≡ halts x (state_of s o q) =
             done.does (state_of s o q) s.stage.disposition refl
-            ∙ ap (λ (y : Stop). ended y (grown y s.stage.disposition (outbox_of a.outbox o') (state_of s o q))) e in
+            ∙ ap (λ (y : Option Refusal). ended y (grown y s.stage.disposition (outbox_of a.outbox o') (state_of s o q))) e in
             rw k (is_refused (sends b) s (lent l d o q) long known t sound in_order refl (stopped b (state_of s o q) x h f))
 
         -- the session with the message
@@ -107,7 +106,7 @@ module _ (s : SessionState) (l : List ℕ) (o b d q : Bytes) where
               reject = s.reject;
             }
 
-        pub went : (l' : List ℕ) (n : ℕ) → a.stop ≡ No → Listed (asked next.clock) l 0 l' n
+        pub went : (l' : List ℕ) (n : ℕ) → a.stop ≡ None → Listed (asked next.clock) l 0 l' n
             → Called (sends b) s (lent l d o q) (record { session = next; answer = Number s.outbox.next; events = n }) (lent l' d o' q)
         unfolding taken_by
         went l' n e li =
@@ -115,7 +114,7 @@ module _ (s : SessionState) (l : List ℕ) (o b d q : Bytes) where
             let ex : Exact s (length o) (length q) = i.good.exact in
             let f : allocate b s.stage.disposition (state_of s o q) ≡ stays (state_of next o' q) =
             done.does (state_of s o q) s.stage.disposition refl
-            ∙ ap (λ (y : Stop). ended y (grown y s.stage.disposition (outbox_of a.outbox o') (state_of s o q))) e in
+            ∙ ap (λ (y : Option Refusal). ended y (grown y s.stage.disposition (outbox_of a.outbox o') (state_of s o q))) e in
             let us : List R.Unacked = unacked_of a.outbox o' in
             meets (sends b) s (lent l d o q) long known {r = next} sound
             (record {

@@ -4,7 +4,6 @@
 ghost use Rattle.rules.specs.Calls.{sends};
 ghost use Rattle.session.specs.Promise.{CalledWithOutbound};
 
-use events::Stop;
 use peer_session::SessionState;
 use rules::{Answer, Refusal};
 use session::Returned;
@@ -29,8 +28,8 @@ pub fn send_message(s: SessionState, list: &mut [u64], outbound: &mut [u8], body
     let a = peer_session::allocate(o, outbound, body);
     let stop = a.stop;
     match stop {
-        Stop::By(x) => session::refused(s, x),
-        Stop::No => {
+        Some(x) => session::refused(s, x),
+        None => {
             let more = a.outbox;
             let generation = s.clock.generation + 1;
             let mut r = s;

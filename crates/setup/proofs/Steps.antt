@@ -18,8 +18,7 @@ use Rattle.rules.specs.Sending.{allocate}
 use Rattle.rules.specs.Setup.{waiting_with}
 use Rattle.rules.specs.Buffers.{repacked}
 use Rattle.rules.proofs.Buffers.{repacked-same}
-use Rattle.events.specs.declared.Stop.{Stop}
-use Rattle.events.specs.declared.Stop.TheVariants.{No, By}
+use Rattle.std.specs.Prelude.{Option, None, Some}
 use Rattle.events.specs.Written.{asked, ended}
 use Rattle.events.proofs.Laws.{listed-none}
 use Rattle.outbox.specs.declared.Outbox.{Outbox}
@@ -60,17 +59,17 @@ turned_is t = returned_cong t.session t.answer t.events
 -- ---- a message that joins
 
 module _ (b : Bytes) (d : ℕ) (s : SessionState) (o : Bytes) (a : Allocated) (o' : Bytes) (ready : ExactOutbox s.outbox (length o)) (done : Allocates b s.outbox o a o') where
-  allocated : (q : Bytes) (y : Stop) → a.stop ≡ y → allocate b d (state_of s o q) ≡ ended y (grown y d (outbox_of a.outbox o') (state_of s o q))
+  allocated : (q : Bytes) (y : Option Refusal) → a.stop ≡ y → allocate b d (state_of s o q) ≡ ended y (grown y d (outbox_of a.outbox o') (state_of s o q))
   allocated q y e =
       done.does (state_of s o q) d refl
-      ∙ ap (λ (z : Stop). ended z (grown z d (outbox_of a.outbox o') (state_of s o q))) e
+      ∙ ap (λ (z : Option Refusal). ended z (grown z d (outbox_of a.outbox o') (state_of s o q))) e
 
-  pub joins_not : (x : Refusal) → a.stop ≡ By x → Joins b d s o (record { session = s; stop = By x }) o'
+  pub joins_not : (x : Refusal) → a.stop ≡ Some x → Joins b d s o (record { session = s; stop = Some x }) o'
   joins_not x e =
       let k : o' ≡ o = done.kept x e in
       rw k
       (record {
-        does = λ q. allocated q (By x) e;
+        does = λ q. allocated q (Some x) e;
         exact = λ size ex. ex;
         bytes = stays-packed s.outbox o ready;
         queue = refl;
@@ -92,10 +91,10 @@ module _ (b : Bytes) (d : ℕ) (s : SessionState) (o : Bytes) (a : Allocated) (o
         reject = s.reject;
       }
 
-  pub joins : a.stop ≡ No → Joins b d s o (record { session = next; stop = No }) o'
+  pub joins : a.stop ≡ None → Joins b d s o (record { session = next; stop = None }) o'
   joins e =
       record {
-        does = λ q. allocated q No e;
+        does = λ q. allocated q None e;
         exact = λ size ex.
             record {
               outbox = done.exact;
@@ -109,17 +108,17 @@ module _ (b : Bytes) (d : ℕ) (s : SessionState) (o : Bytes) (a : Allocated) (o
 -- ---- what follows it
 
 module _ {b : Bytes} {d : ℕ} {s : SessionState} {o : Bytes} {a : Joined} {o' : Bytes} (j : Joins b d s o a o') where
-  pub joined : (y : Stop) → a.stop ≡ y → (q : Bytes) → allocate b d (state_of s o q) ≡ ended y (state_of a.session o' q)
-  joined y e q = j.does q ∙ ap (λ (z : Stop). ended z (state_of a.session o' q)) e
+  pub joined : (y : Option Refusal) → a.stop ≡ y → (q : Bytes) → allocate b d (state_of s o q) ≡ ended y (state_of a.session o' q)
+  joined y e q = j.does q ∙ ap (λ (z : Option Refusal). ended z (state_of a.session o' q)) e
 
   -- a refusal ends whatever would follow
-  pub stopped : {rule : R.State → Outcome} {l : List ℕ} {r : Returned} {x : Refusal} → a.stop ≡ By x → Turned a.session x r
+  pub stopped : {rule : R.State → Outcome} {l : List ℕ} {r : Returned} {x : Refusal} → a.stop ≡ Some x → Turned a.session x r
       → ((q : Bytes) (u : R.State) → allocate b d (state_of s o q) ≡ halts x u → rule (state_of s o q) ≡ outcome u (Refused x) []) → Comes rule s l o r l o'
   stopped {l = l} {x = x} e t f =
       rw (turned_is t)
       (record {
         shown = [];
-        does = λ q. f q (state_of a.session o' q) (joined (By x) e q);
+        does = λ q. f q (state_of a.session o' q) (joined (Some x) e q);
         exact = j.exact;
         bytes = j.bytes;
         queue = j.queue;
@@ -128,15 +127,15 @@ module _ {b : Bytes} {d : ℕ} {s : SessionState} {o : Bytes} {a : Joined} {o' :
 
 -- a proposal
 module _ (terms : Terms) (b : Bytes) (s : SessionState) (l : List ℕ) (o : Bytes) (a : Joined) (o' : Bytes) (j : Joins b 1 s o a o') where
-  pub proposal_stopped : {r : Returned} (x : Refusal) → a.stop ≡ By x → Turned a.session x r → Comes (proposing terms b) s l o r l o'
+  pub proposal_stopped : {r : Returned} (x : Refusal) → a.stop ≡ Some x → Turned a.session x r → Comes (proposing terms b) s l o r l o'
   proposal_stopped x e t = stopped j e t (λ q u h. ap (λ (p : Progress). answers Done (p then waiting_with terms)) h)
 
-  pub proposed : {r : Returned} → a.stop ≡ No → r ≡ waiting_in 1 terms a.session → Comes (proposing terms b) s l o r l o'
+  pub proposed : {r : Returned} → a.stop ≡ None → r ≡ waiting_in 1 terms a.session → Comes (proposing terms b) s l o r l o'
   proposed e h =
       rw h
       (record {
         shown = [];
-        does = λ q. ap (λ (p : Progress). answers Done (p then waiting_with terms)) (joined j No e q);
+        does = λ q. ap (λ (p : Progress). answers Done (p then waiting_with terms)) (joined j None e q);
         exact = λ size ex. exact-staged 1 _ a.session (j.exact size ex);
         bytes = j.bytes;
         queue = j.queue;
@@ -145,16 +144,16 @@ module _ (terms : Terms) (b : Bytes) (s : SessionState) (l : List ℕ) (o : Byte
 
 -- a rejection
 module _ (s : SessionState) (l : List ℕ) (o : Bytes) (a : Joined) (o' : Bytes) (j : Joins (reject_of s.reject) 4 s o a o') where
-  pub rejection_stopped : {r : Returned} (x : Refusal) → a.stop ≡ By x → Turned a.session x r → Comes rejecting s l o r l o'
+  pub rejection_stopped : {r : Returned} (x : Refusal) → a.stop ≡ Some x → Turned a.session x r → Comes rejecting s l o r l o'
   rejection_stopped x e t = stopped j e t (λ q u h. ap (λ (p : Progress). answers Done (p then request)) h)
 
-  pub rejected : {r : Returned} {l' : List ℕ} → a.stop ≡ No → Asks a.session l r l' → Comes rejecting s l o r l' o'
+  pub rejected : {r : Returned} {l' : List ℕ} → a.stop ≡ None → Asks a.session l r l' → Comes rejecting s l o r l' o'
   unfolding request
   rejected {r} e h =
       rw h.is
       (record {
         shown = asked a.session.clock;
-        does = λ q. ap (λ (p : Progress). answers Done (p then request)) (joined j No e q);
+        does = λ q. ap (λ (p : Progress). answers Done (p then request)) (joined j None e q);
         exact = j.exact;
         bytes = j.bytes;
         queue = j.queue;

@@ -9,7 +9,6 @@ ghost use Rattle.outbox.specs.View.{ExactOutbox};
 ghost use Rattle.session.specs.Promise.{CalledWithOutbound, CalledWithOutboundAlone, CalledWithStoresAlone, CalledAlone};
 ghost use Rattle.setup.specs.Steps.{Ready, Joins, Asks, staged, waiting_in, Comes, proposing, rejecting, Retires, Forgets};
 
-use events::Stop;
 use peer_session::{SessionState, Stage};
 use rules::{Answer, Refusal, Setup, Terms};
 use session::Returned;
@@ -20,7 +19,7 @@ use session::Returned;
 #[derive(Clone, Copy)]
 pub struct Joined {
     pub session: SessionState,
-    pub stop: Stop,
+    pub stop: Option<Refusal>,
 }
 
 // A message gets the next number, under a disposition.
@@ -32,11 +31,11 @@ pub fn join(s: SessionState, outbound: &mut [u8], disposition: u8, body: &[u8]) 
     let a = peer_session::allocate(o, outbound, body);
     let stop = a.stop;
     match stop {
-        Stop::By(x) => Joined {
+        Some(x) => Joined {
             session: s,
-            stop: Stop::By(x),
+            stop: Some(x),
         },
-        Stop::No => {
+        None => {
             let more = a.outbox;
             let generation = s.clock.generation + 1;
             let mut r = s;
@@ -45,7 +44,7 @@ pub fn join(s: SessionState, outbound: &mut [u8], disposition: u8, body: &[u8]) 
             r.stage.disposition = disposition;
             Joined {
                 session: r,
-                stop: Stop::No,
+                stop: None,
             }
         }
     }
@@ -117,8 +116,8 @@ fn propose(s: SessionState, outbound: &mut [u8], terms: Terms, body: &[u8]) -> R
     let r = a.session;
     let stop = a.stop;
     match stop {
-        Stop::By(x) => session::refused(r, x),
-        Stop::No => accepted(r, terms),
+        Some(x) => session::refused(r, x),
+        None => accepted(r, terms),
     }
 }
 
@@ -162,8 +161,8 @@ fn send_reject(s: SessionState, list: &mut [u64], outbound: &mut [u8]) -> Return
     let r = a.session;
     let stop = a.stop;
     match stop {
-        Stop::By(x) => session::refused(r, x),
-        Stop::No => done(r, list),
+        Some(x) => session::refused(r, x),
+        None => done(r, list),
     }
 }
 

@@ -22,19 +22,19 @@ overflow_add-i c = omega (arith, c.drain-test.true, c.drain.invariant.pre.exact.
 pub drain-preserved : goal.drain-preserved
 drain-preserved c =
     turns_more c.drain.invariant c.drain-test.true c.if-number-turn.false c.available.result c.available.ensures (c.if-not-available.false) c.deliverable.result c.deliverable.ensures (c.if-not-deliverable.false)
-    c.deliver_queued-s.result c.deliver_queued-s.new.list c.deliver_queued-s.new.delivery c.deliver_queued-s.ensures c.in-No.is c.deliver_queued-s.auto.list c.deliver_queued-s.auto.delivery
+    c.deliver_queued-s.result c.deliver_queued-s.new.list c.deliver_queued-s.new.delivery c.deliver_queued-s.ensures c.in-None.is c.deliver_queued-s.auto.list c.deliver_queued-s.auto.delivery
 
-pub shape_of-list-in-By : goal.shape_of-list-in-By
-shape_of-list-in-By c = c.deliver_queued-s.auto.list ∙ c.drain.invariant.list
+pub shape_of-list-in-Some : goal.shape_of-list-in-Some
+shape_of-list-in-Some c = c.deliver_queued-s.auto.list ∙ c.drain.invariant.list
 
-pub shape_of-delivery-in-By : goal.shape_of-delivery-in-By
-shape_of-delivery-in-By c = c.deliver_queued-s.auto.delivery ∙ c.drain.invariant.delivery
+pub shape_of-delivery-in-Some : goal.shape_of-delivery-in-Some
+shape_of-delivery-in-Some c = c.deliver_queued-s.auto.delivery ∙ c.drain.invariant.delivery
 
-pub returns-in-By : goal.returns-in-By
-returns-in-By c =
+pub returns-in-Some : goal.returns-in-Some
+returns-in-Some c =
     drains_as c.leave.ensures
     (out_refused c.drain.invariant c.drain-test.true c.if-number-turn.false c.available.result c.available.ensures (c.if-not-available.false) c.deliverable.result c.deliverable.ensures (c.if-not-deliverable.false)
-    c.deliver_queued-s.result c.deliver_queued-s.new.list c.deliver_queued-s.new.delivery c.deliver_queued-s.ensures c.in-By.x c.in-By.is)
+    c.deliver_queued-s.result c.deliver_queued-s.new.list c.deliver_queued-s.new.delivery c.deliver_queued-s.ensures c.in-Some.x c.in-Some.is)
 
 pub returns : goal.returns
 returns c =

@@ -5,17 +5,17 @@ use Rattle.delivery.specs.Turns.{frame_of}
 use Rattle.delivery.proofs.Steps.{did_message, proposal_then, proposal_refused}
 use Rattle.delivery.proofs.take_proposal.Goals as goal
 
-pub returns-in-No : goal.returns-in-No
-returns-in-No c =
+pub returns-in-None : goal.returns-in-None
+returns-in-None c =
     let x = c.args in
     let b = books x.list.now x.n x.delivery.now x.at in
     let f = frame_of x.number x.kind x.body.now in
-    proposal_then x.t b (length x.body.now) c.receive_proposal-a.result c.receive_proposal-a.ensures (hand_over f) c.in-No.is _ _ _ _
+    proposal_then x.t b (length x.body.now) c.receive_proposal-a.result c.receive_proposal-a.ensures (hand_over f) c.in-None.is _ _ _ _
     (did_message c.receive_proposal-a.result.turn b f c.hand_over.new.list c.hand_over.new.delivery c.hand_over.ensures)
 
-pub returns-in-By : goal.returns-in-By
-returns-in-By c =
+pub returns-in-Some : goal.returns-in-Some
+returns-in-Some c =
     let x = c.args in
     let b = books x.list.now x.n x.delivery.now x.at in
     let f = frame_of x.number x.kind x.body.now in
-    proposal_refused x.t b (length x.body.now) c.receive_proposal-a.result c.receive_proposal-a.ensures (hand_over f) c.in-By.x c.in-By.is
+    proposal_refused x.t b (length x.body.now) c.receive_proposal-a.result c.receive_proposal-a.ensures (hand_over f) c.in-Some.x c.in-Some.is

@@ -10,8 +10,8 @@ abandon-requires c = abandoning c.before.requires c.drain-d.ensures c.drain-d.au
 pub finish-r-requires : goal.finish-r-requires
 finish-r-requires c = finishing c.before.requires c.drain-d.ensures
 
-pub returns-in-By : goal.returns-in-By
-returns-in-By c = carries_not c.before.requires c.drain-d.ensures c.in-By.x c.in-By.is c.abandon.ensures
+pub returns-in-Some : goal.returns-in-Some
+returns-in-Some c = carries_not c.before.requires c.drain-d.ensures c.in-Some.x c.in-Some.is c.abandon.ensures
 
-pub returns-in-No : goal.returns-in-No
-returns-in-No c = carries-on c.before.requires c.drain-d.ensures c.in-No.is c.finish-r.ensures
+pub returns-in-None : goal.returns-in-None
+returns-in-None c = carries-on c.before.requires c.drain-d.ensures c.in-None.is c.finish-r.ensures

@@ -9,7 +9,7 @@ deliver-a-requires c = ready c.requires.taking
 
 pub abandon-requires : goal.abandon-requires
 abandon-requires c =
-    abandoning c.args.words.now c.args.halves.now c.args.bytes.now c.args.clock.now c.requires c.deliver-a.ensures c.in-By.x c.in-By.is c.deliver-a.auto.list
+    abandoning c.args.words.now c.args.halves.now c.args.bytes.now c.args.clock.now c.requires c.deliver-a.ensures c.in-Some.x c.in-Some.is c.deliver-a.auto.list
 
 pub up_to-from-requires : goal.up_to-from-requires
 up_to-from-requires c =
@@ -17,26 +17,26 @@ up_to-from-requires c =
 
 pub put-requires : goal.put-requires
 put-requires c =
-    may_put c.args.words.now c.args.halves.now c.args.bytes.now c.args.clock.now c.requires c.deliver-a.ensures c.in-No.is
+    may_put c.args.words.now c.args.halves.now c.args.bytes.now c.args.clock.now c.requires c.deliver-a.ensures c.in-None.is
 
 pub request-n-requires : goal.request-n-requires
 request-n-requires c =
-    may_request c.args.words.now c.args.halves.now c.args.bytes.now c.args.clock.now c.requires c.deliver-a.ensures c.in-No.is c.deliver-a.auto.list
+    may_request c.args.words.now c.args.halves.now c.args.bytes.now c.args.clock.now c.requires c.deliver-a.ensures c.in-None.is c.deliver-a.auto.list
 
 pub carry-requires : goal.carry-requires
 carry-requires c =
-    carrying c.args.words.now c.args.halves.now c.args.bytes.now c.args.clock.now c.requires c.deliver-a.ensures c.in-No.is (omega (arith, c.full_words.ensures)) (omega (arith, c.full_bytes.ensures)) c.put.ensures c.up_to-from.ensures c.request-n.ensures (c.request-n.auto.list ∙ c.deliver-a.auto.list) c.deliver-a.auto.delivery
+    carrying c.args.words.now c.args.halves.now c.args.bytes.now c.args.clock.now c.requires c.deliver-a.ensures c.in-None.is (omega (arith, c.full_words.ensures)) (omega (arith, c.full_bytes.ensures)) c.put.ensures c.up_to-from.ensures c.request-n.ensures (c.request-n.auto.list ∙ c.deliver-a.auto.list) c.deliver-a.auto.delivery
 
-pub returns-in-By : goal.returns-in-By
-returns-in-By c =
-    refused c.args.words.now c.args.halves.now c.args.bytes.now c.args.clock.now c.requires c.deliver-a.ensures c.in-By.x c.in-By.is c.abandon.ensures
+pub returns-in-Some : goal.returns-in-Some
+returns-in-Some c =
+    refused c.args.words.now c.args.halves.now c.args.bytes.now c.args.clock.now c.requires c.deliver-a.ensures c.in-Some.x c.in-Some.is c.abandon.ensures
 
-pub shape_of-list-in-No : goal.shape_of-list-in-No
-shape_of-list-in-No c = c.carry.auto.list ∙ c.request-n.auto.list ∙ c.deliver-a.auto.list
+pub shape_of-list-in-None : goal.shape_of-list-in-None
+shape_of-list-in-None c = c.carry.auto.list ∙ c.request-n.auto.list ∙ c.deliver-a.auto.list
 
-pub shape_of-delivery-in-No : goal.shape_of-delivery-in-No
-shape_of-delivery-in-No c = c.carry.auto.delivery ∙ c.deliver-a.auto.delivery
+pub shape_of-delivery-in-None : goal.shape_of-delivery-in-None
+shape_of-delivery-in-None c = c.carry.auto.delivery ∙ c.deliver-a.auto.delivery
 
-pub returns-in-No : goal.returns-in-No
-returns-in-No c =
-    taken c.args.words.now c.args.halves.now c.args.bytes.now c.args.clock.now c.requires c.deliver-a.ensures c.in-No.is (omega (arith, c.full_words.ensures)) (omega (arith, c.full_bytes.ensures)) c.put.ensures c.up_to-from.ensures c.request-n.ensures c.carry.ensures
+pub returns-in-None : goal.returns-in-None
+returns-in-None c =
+    taken c.args.words.now c.args.halves.now c.args.bytes.now c.args.clock.now c.requires c.deliver-a.ensures c.in-None.is (omega (arith, c.full_words.ensures)) (omega (arith, c.full_bytes.ensures)) c.put.ensures c.up_to-from.ensures c.request-n.ensures c.carry.ensures

@@ -6,11 +6,11 @@ use Rattle.link_commits.proofs.complete.Goals as goal
 
 pub finish-requires : goal.finish-requires
 finish-requires c =
-    found-ready (parts c.args.words.now c.args.halves.now c.args.bytes.now c.args.clock.now) (length c.args.list.now) c.args.commit c.enters-stop.result c.in-No.is (c.enters-stop.ensures c.args.clock.now)
+    found-ready (parts c.args.words.now c.args.halves.now c.args.bytes.now c.args.clock.now) (length c.args.list.now) c.args.commit c.enters-stop.result c.in-Ok.is (c.enters-stop.ensures c.args.clock.now)
 
-pub returns-in-By : goal.returns-in-By
-returns-in-By c =
-    turned (parts c.args.words.now c.args.halves.now c.args.bytes.now c.args.clock.now) c.args.list.now c.args.commit c.args.persisted c.enters-stop.result _ c.in-By.is (c.enters-stop.ensures c.args.clock.now) c.refusal.ensures
+pub returns-in-Err : goal.returns-in-Err
+returns-in-Err c =
+    turned (parts c.args.words.now c.args.halves.now c.args.bytes.now c.args.clock.now) c.args.list.now c.args.commit c.args.persisted c.enters-stop.result _ c.in-Err.is (c.enters-stop.ensures c.args.clock.now) c.refusal.ensures
 
-pub returns-in-No : goal.returns-in-No
-returns-in-No c = c.finish.ensures
+pub returns-in-Ok : goal.returns-in-Ok
+returns-in-Ok c = c.finish.ensures

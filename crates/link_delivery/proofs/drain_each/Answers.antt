@@ -36,8 +36,8 @@ overflow_add-k c = omega (arith, c.drain.invariant.few, c.drain.invariant.many, 
 pub overflow_add-start : goal.overflow_add-start
 overflow_add-start c = omega (arith, on_in c.drain.invariant c.drain-test.true c.size-len.ensures)
 
-pub overflow_add-i-in-No : goal.overflow_add-i-in-No
-overflow_add-i-in-No c = omega (arith, c.drain.invariant.few, c.drain.invariant.many, c.drain-test.true)
+pub overflow_add-i-in-None : goal.overflow_add-i-in-None
+overflow_add-i-in-None c = omega (arith, c.drain.invariant.few, c.drain.invariant.many, c.drain-test.true)
 
 pub drain-smaller : goal.drain-smaller
 drain-smaller c = omega (arith, c.drain.invariant.few, c.drain.invariant.many, c.drain-test.true)
@@ -50,16 +50,16 @@ drain-preserved c =
     let d = c.deliverable in
     let g = c.deliver_queued-s in
     more_in v l c.if-number-turn.false c.size-len.ensures a.result a.ensures (c.if-not-available.false)
-    d.result d.ensures (c.if-not-deliverable.false) g.ensures c.in-No.is g.auto.list g.auto.delivery
+    d.result d.ensures (c.if-not-deliverable.false) g.ensures c.in-None.is g.auto.list g.auto.delivery
 
-pub shape_of-list-in-By : goal.shape_of-list-in-By
-shape_of-list-in-By c = c.deliver_queued-s.auto.list ∙ c.drain.invariant.turns.list
+pub shape_of-list-in-Some : goal.shape_of-list-in-Some
+shape_of-list-in-Some c = c.deliver_queued-s.auto.list ∙ c.drain.invariant.turns.list
 
-pub shape_of-delivery-in-By : goal.shape_of-delivery-in-By
-shape_of-delivery-in-By c = c.deliver_queued-s.auto.delivery ∙ c.drain.invariant.turns.delivery
+pub shape_of-delivery-in-Some : goal.shape_of-delivery-in-Some
+shape_of-delivery-in-Some c = c.deliver_queued-s.auto.delivery ∙ c.drain.invariant.turns.delivery
 
-pub returns-in-By : goal.returns-in-By
-returns-in-By c =
+pub returns-in-Some : goal.returns-in-Some
+returns-in-Some c =
     let v = c.drain.invariant in
     let l = c.drain-test.true in
     let a = c.available in
@@ -67,7 +67,7 @@ returns-in-By c =
     let g = c.deliver_queued-s in
     ends_in v
     (refused_in v l c.if-number-turn.false c.size-len.ensures a.result a.ensures (c.if-not-available.false)
-    d.result d.ensures (c.if-not-deliverable.false) g.ensures c.in-By.x c.in-By.is)
+    d.result d.ensures (c.if-not-deliverable.false) g.ensures c.in-Some.x c.in-Some.is)
     c.leave.ensures
 
 pub returns : goal.returns

@@ -10,8 +10,8 @@ abandon-requires c = (abandoning_in c.args.words.now c.args.halves.now c.args.by
 pub finish-requires : goal.finish-requires
 finish-requires c = (finishing_in c.args.words.now c.args.halves.now c.args.bytes.now c.args.clock.now c.requires.0 c.full_words.ensures c.full_bytes.ensures c.drain-d.ensures, c.requires.1)
 
-pub returns-in-By : goal.returns-in-By
-returns-in-By c = carries_not_in c.args.words.now c.args.halves.now c.args.bytes.now c.args.clock.now c.requires.0 c.full_words.ensures c.full_bytes.ensures c.drain-d.ensures c.in-By.x c.in-By.is c.abandon.ensures
+pub returns-in-Some : goal.returns-in-Some
+returns-in-Some c = carries_not_in c.args.words.now c.args.halves.now c.args.bytes.now c.args.clock.now c.requires.0 c.full_words.ensures c.full_bytes.ensures c.drain-d.ensures c.in-Some.x c.in-Some.is c.abandon.ensures
 
-pub returns-in-No : goal.returns-in-No
-returns-in-No c = carries_on_in c.args.words.now c.args.halves.now c.args.bytes.now c.args.clock.now c.requires.0 c.full_words.ensures c.full_bytes.ensures c.drain-d.ensures c.in-No.is c.finish.ensures
+pub returns-in-None : goal.returns-in-None
+returns-in-None c = carries_on_in c.args.words.now c.args.halves.now c.args.bytes.now c.args.clock.now c.requires.0 c.full_words.ensures c.full_bytes.ensures c.drain-d.ensures c.in-None.is c.finish.ensures

@@ -1,17 +1,24 @@
 -- `link_replays::connectivity` meets its contract, by what its tests find. Assumes nothing.
-use lib.ListN.{length}
-use mathlib.Core.Path.{subst}
-use Rattle.events.specs.declared.Stop.{Stop}
+use mathlib.Core.Path.{subst, sym}
+use Rattle.std.specs.Prelude.{ℕ}
+use Rattle.rules.specs.Calls.{connects}
+use Rattle.session.specs.Promise.{CalledWithList}
 use Rattle.parts.specs.Parts.{parts}
-use Rattle.link_replays.specs.Connects.{Found}
-use Rattle.link_replays.proofs.Connects.{turned}
+use Rattle.parts.specs.Driven.{Driven}
+use Rattle.link_replays.proofs.Connects.{turned, ready_for, found-event}
 use Rattle.link_replays.proofs.connectivity.Goals as goal
 
 pub goes-requires : goal.goes-requires
-goes-requires c = subst (λ (s : Stop). Found (parts c.args.words.now c.args.halves.now c.args.bytes.now c.args.clock.now) (length c.args.list.now) c.args.event s) c.in-No.is (c.enters-stop.ensures c.args.clock.now)
+goes-requires c = ready_for (parts c.args.words.now c.args.halves.now c.args.bytes.now c.args.clock.now) _ c.args.event c.in-Ok.read (c.enters.ensures c.args.clock.now) c.in-Ok.is
 
-pub returns-in-By : goal.returns-in-By
-returns-in-By c = turned (parts c.args.words.now c.args.halves.now c.args.bytes.now c.args.clock.now) c.args.list.now c.args.event c.args.time c.args.force c.in-By.x (subst (λ (s : Stop). Found (parts c.args.words.now c.args.halves.now c.args.bytes.now c.args.clock.now) (length c.args.list.now) c.args.event s) c.in-By.is (c.enters-stop.ensures c.args.clock.now)) c.refusal.ensures
+pub returns-in-Err : goal.returns-in-Err
+returns-in-Err c =
+    turned (parts c.args.words.now c.args.halves.now c.args.bytes.now c.args.clock.now) c.args.list.now c.args.event c.args.time c.args.force c.in-Err.x (c.enters.ensures c.args.clock.now) c.in-Err.is c.refusal.ensures
 
-pub returns-in-No : goal.returns-in-No
-returns-in-No c = c.goes.ensures
+pub returns-in-Ok : goal.returns-in-Ok
+returns-in-Ok c =
+    let f = found-event (parts c.args.words.now c.args.halves.now c.args.bytes.now c.args.clock.now) _ c.args.event (c.enters.ensures c.args.clock.now) c.in-Ok.is in
+    subst
+    (λ (m : ℕ). Driven (parts c.args.words.now c.args.halves.now c.args.bytes.now c.args.clock.now) (parts c.args.words.now c.args.halves.now c.args.bytes.now c.goes.new.clock) c.goes.result
+    (λ s y. CalledWithList (connects m c.args.time c.args.force) s c.args.list.now y c.goes.new.list))
+    (sym f.1) c.goes.ensures

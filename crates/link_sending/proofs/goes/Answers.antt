@@ -11,8 +11,8 @@ overflow_add-halves c = omega (arith, low_generation c.args.words.now c.args.hal
 pub request-n-requires : goal.request-n-requires
 request-n-requires c = omega (arith, c.requires.list)
 
-pub returns-in-By : goal.returns-in-By
-returns-in-By c = stopped c.args.words.now c.args.halves.now c.args.bytes.now c.args.clock.now c.args.list.now c.args.outbound.now c.args.body.now c.requires _ c.allocate-stop.ensures c.in-By.is c.refusal.ensures
+pub returns-in-Some : goal.returns-in-Some
+returns-in-Some c = stopped c.args.words.now c.args.halves.now c.args.bytes.now c.args.clock.now c.args.list.now c.args.outbound.now c.args.body.now c.requires _ c.allocate-stop.ensures c.in-Some.is c.refusal.ensures
 
-pub returns-in-No : goal.returns-in-No
-returns-in-No c = went c.args.words.now c.args.halves.now c.args.bytes.now c.args.clock.now c.args.list.now c.args.outbound.now c.args.body.now c.requires c.full_halves.ensures c.allocate-stop.ensures c.in-No.is c.clock_in-k.result c.clock_in-k.ensures c.request-n.new.list c.request-n.result c.request-n.ensures c.plain.ensures
+pub returns-in-None : goal.returns-in-None
+returns-in-None c = went c.args.words.now c.args.halves.now c.args.bytes.now c.args.clock.now c.args.list.now c.args.outbound.now c.args.body.now c.requires c.full_halves.ensures c.allocate-stop.ensures c.in-None.is c.clock_in-k.result c.clock_in-k.ensures c.request-n.new.list c.request-n.result c.request-n.ensures c.plain.ensures

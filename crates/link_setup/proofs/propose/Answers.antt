@@ -10,8 +10,8 @@ allocate-stop-requires c = (usable c.args.words.now c.args.halves.now c.args.byt
 pub overflow_add-halves : goal.overflow_add-halves
 overflow_add-halves c = omega (arith, low_half c.args.words.now c.args.halves.now c.args.bytes.now c.args.clock.now c.requires.0.checked c.requires.0.low)
 
-pub returns-in-By : goal.returns-in-By
-returns-in-By c = stopped c.args.words.now c.args.halves.now c.args.bytes.now c.args.clock.now c.args.terms c.args.outbound.now c.args.body.now c.requires.0 c.requires.1 _ c.allocate-stop.ensures c.in-By.is c.refusal.ensures
+pub returns-in-Some : goal.returns-in-Some
+returns-in-Some c = stopped c.args.words.now c.args.halves.now c.args.bytes.now c.args.clock.now c.args.terms c.args.outbound.now c.args.body.now c.requires.0 c.requires.1 _ c.allocate-stop.ensures c.in-Some.is c.refusal.ensures
 
-pub returns-in-No : goal.returns-in-No
-returns-in-No c = went c.args.words.now c.args.halves.now c.args.bytes.now c.args.clock.now c.args.terms c.args.outbound.now c.args.body.now c.requires.0 c.requires.1 c.full_halves.ensures c.allocate-stop.ensures c.in-No.is c.stage.ensures c.plain.ensures
+pub returns-in-None : goal.returns-in-None
+returns-in-None c = went c.args.words.now c.args.halves.now c.args.bytes.now c.args.clock.now c.args.terms c.args.outbound.now c.args.body.now c.requires.0 c.requires.1 c.full_halves.ensures c.allocate-stop.ensures c.in-None.is c.stage.ensures c.plain.ensures

@@ -21,8 +21,8 @@ overflow_add-halves c = omega (arith, low_half c.args.words.now c.args.halves.no
 pub request-n-requires : goal.request-n-requires
 request-n-requires c = omega (arith, c.requires.list)
 
-pub returns-in-By : goal.returns-in-By
-returns-in-By c = stopped c.args.words.now c.args.halves.now c.args.bytes.now c.args.clock.now c.args.list.now c.args.outbound.now c.requires c.reject_in-j.result c.reject_in-j.ensures _ c.allocate-stop.ensures c.in-By.is c.refusal.ensures
+pub returns-in-Some : goal.returns-in-Some
+returns-in-Some c = stopped c.args.words.now c.args.halves.now c.args.bytes.now c.args.clock.now c.args.list.now c.args.outbound.now c.requires c.reject_in-j.result c.reject_in-j.ensures _ c.allocate-stop.ensures c.in-Some.is c.refusal.ensures
 
-pub returns-in-No : goal.returns-in-No
-returns-in-No c = went c.args.words.now c.args.halves.now c.args.bytes.now c.args.clock.now c.args.list.now c.args.outbound.now c.requires c.full_halves.ensures c.reject_in-j.result c.reject_in-j.ensures c.allocate-stop.ensures c.in-No.is c.clock_in-k.result c.clock_in-k.ensures c.request-n.new.list c.request-n.result c.request-n.ensures c.plain.ensures
+pub returns-in-None : goal.returns-in-None
+returns-in-None c = went c.args.words.now c.args.halves.now c.args.bytes.now c.args.clock.now c.args.list.now c.args.outbound.now c.requires c.full_halves.ensures c.reject_in-j.result c.reject_in-j.ensures c.allocate-stop.ensures c.in-None.is c.clock_in-k.result c.clock_in-k.ensures c.request-n.new.list c.request-n.result c.request-n.ensures c.plain.ensures

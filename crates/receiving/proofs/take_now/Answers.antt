@@ -6,28 +6,28 @@ pub deliver-a-requires : goal.deliver-a-requires
 deliver-a-requires c = ready c.requires
 
 pub abandon-requires : goal.abandon-requires
-abandon-requires c = now_abandoning c.requires c.deliver-a.ensures c.in-By.x c.in-By.is c.deliver-a.auto.list
+abandon-requires c = now_abandoning c.requires c.deliver-a.ensures c.in-Some.x c.in-Some.is c.deliver-a.auto.list
 
 pub put-acks-requires : goal.put-acks-requires
-put-acks-requires c = put-fits c.requires c.deliver-a.ensures c.in-No.is
+put-acks-requires c = put-fits c.requires c.deliver-a.ensures c.in-None.is
 
 pub up_to-from-requires : goal.up_to-from-requires
 up_to-from-requires c = c.requires.receiving.exact.queued.few
 
 pub request-n-requires : goal.request-n-requires
-request-n-requires c = request-room c.requires c.deliver-a.ensures c.in-No.is c.deliver-a.auto.list
+request-n-requires c = request-room c.requires c.deliver-a.ensures c.in-None.is c.deliver-a.auto.list
 
 pub carry-requires : goal.carry-requires
-carry-requires c = now_carrying c.requires c.deliver-a.ensures c.in-No.is c.put-acks.ensures c.up_to-from.ensures c.request-n.ensures (c.request-n.auto.list ∙ c.deliver-a.auto.list) c.deliver-a.auto.delivery
+carry-requires c = now_carrying c.requires c.deliver-a.ensures c.in-None.is c.put-acks.ensures c.up_to-from.ensures c.request-n.ensures (c.request-n.auto.list ∙ c.deliver-a.auto.list) c.deliver-a.auto.delivery
 
-pub returns-in-By : goal.returns-in-By
-returns-in-By c = now_refused c.requires c.deliver-a.ensures c.in-By.x c.in-By.is c.abandon.ensures
+pub returns-in-Some : goal.returns-in-Some
+returns-in-Some c = now_refused c.requires c.deliver-a.ensures c.in-Some.x c.in-Some.is c.abandon.ensures
 
-pub shape_of-list-in-No : goal.shape_of-list-in-No
-shape_of-list-in-No c = c.carry.auto.list ∙ c.request-n.auto.list ∙ c.deliver-a.auto.list
+pub shape_of-list-in-None : goal.shape_of-list-in-None
+shape_of-list-in-None c = c.carry.auto.list ∙ c.request-n.auto.list ∙ c.deliver-a.auto.list
 
-pub shape_of-delivery-in-No : goal.shape_of-delivery-in-No
-shape_of-delivery-in-No c = c.carry.auto.delivery ∙ c.deliver-a.auto.delivery
+pub shape_of-delivery-in-None : goal.shape_of-delivery-in-None
+shape_of-delivery-in-None c = c.carry.auto.delivery ∙ c.deliver-a.auto.delivery
 
-pub returns-in-No : goal.returns-in-No
-returns-in-No c = now_taken c.requires c.deliver-a.ensures c.in-No.is c.put-acks.ensures c.up_to-from.ensures c.request-n.ensures c.carry.ensures
+pub returns-in-None : goal.returns-in-None
+returns-in-None c = now_taken c.requires c.deliver-a.ensures c.in-None.is c.put-acks.ensures c.up_to-from.ensures c.request-n.ensures c.carry.ensures

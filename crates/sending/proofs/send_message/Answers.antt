@@ -22,8 +22,8 @@ allocate-a-requires c = (parts c.args.s (sym c.sound.ensures.is ∙ c.if-not-sou
 pub request-n-requires : goal.request-n-requires
 request-n-requires c = omega (arith, c.if-list-lt-EVENT_WORDS.false)
 
-pub returns-in-By : goal.returns-in-By
-returns-in-By c = λ d q lq. refused c.args.s c.args.list.now c.args.outbound.now c.args.body.now d q c.if-list-lt-EVENT_WORDS.false c.if-outbound-lt-OUTBOUND_BYTES.false (sym c.sound.ensures.is ∙ c.if-not-sound.false) c.sound.ensures.full lq c.if-s-ge-GENERATION_LIMIT.false c.allocate-a.result c.allocate-a.new.store c.allocate-a.ensures c.in-By.x c.refused-in-By.ensures c.in-By.is
+pub returns-in-Some : goal.returns-in-Some
+returns-in-Some c = λ d q lq. refused c.args.s c.args.list.now c.args.outbound.now c.args.body.now d q c.if-list-lt-EVENT_WORDS.false c.if-outbound-lt-OUTBOUND_BYTES.false (sym c.sound.ensures.is ∙ c.if-not-sound.false) c.sound.ensures.full lq c.if-s-ge-GENERATION_LIMIT.false c.allocate-a.result c.allocate-a.new.store c.allocate-a.ensures c.in-Some.x c.refused-in-Some.ensures c.in-Some.is
 
-pub returns-in-No : goal.returns-in-No
-returns-in-No c = λ d q lq. went c.args.s c.args.list.now c.args.outbound.now c.args.body.now d q c.if-list-lt-EVENT_WORDS.false c.if-outbound-lt-OUTBOUND_BYTES.false (sym c.sound.ensures.is ∙ c.if-not-sound.false) c.sound.ensures.full lq c.if-s-ge-GENERATION_LIMIT.false c.allocate-a.result c.allocate-a.new.store c.allocate-a.ensures c.request-n.new.list c.request-n.result c.in-No.is c.request-n.ensures
+pub returns-in-None : goal.returns-in-None
+returns-in-None c = λ d q lq. went c.args.s c.args.list.now c.args.outbound.now c.args.body.now d q c.if-list-lt-EVENT_WORDS.false c.if-outbound-lt-OUTBOUND_BYTES.false (sym c.sound.ensures.is ∙ c.if-not-sound.false) c.sound.ensures.full lq c.if-s-ge-GENERATION_LIMIT.false c.allocate-a.result c.allocate-a.new.store c.allocate-a.ensures c.request-n.new.list c.request-n.result c.in-None.is c.request-n.ensures

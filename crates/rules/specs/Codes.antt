@@ -1,0 +1,50 @@
+-- The numbers of events, and what a call reads a number as. Assumes nothing.
+use Rattle.std.specs.Prelude.{ℕ, ◌≡◌, ◌≤◌, ◌<◌, ◌⊎◌, Result, Ok, Err}
+use Rattle.rules.specs.declared.Refusal.{Refusal}
+use Rattle.rules.specs.declared.Refusal.TheVariants.{UnknownCode}
+use Rattle.rules.specs.declared.ReceiveMode.{ReceiveMode}
+use Rattle.rules.specs.declared.FrameKind.{FrameKind}
+use Rattle.rules.specs.declared.FrameKind.TheVariants as Kinds
+use Rattle.rules.specs.declared.Connectivity.{Connectivity}
+use Rattle.rules.specs.declared.Connectivity.TheVariants as Line
+use Rattle.rules.specs.declared.EventCode.{EventCode}
+use Rattle.rules.specs.declared.EventCode.TheVariants as Codes
+use Rattle.rules.specs.Receiving.{mode_of}
+
+-- as Events.antt lists them
+abbrev pub event_number : EventCode → ℕ
+event_number Codes.CommitRequested = 1
+event_number Codes.Message = 2
+event_number Codes.Acknowledged = 3
+event_number Codes.RejectionAcknowledged = 4
+event_number Codes.Keepalive = 5
+event_number Codes.Committed = 6
+event_number Codes.Failure = 7
+event_number Codes.SendData = 8
+event_number Codes.SendAck = 9
+event_number Codes.AnswerAck = 10
+
+abbrev pub frame_kind_number : FrameKind → ℕ
+frame_kind_number Kinds.Data = 0
+frame_kind_number Kinds.Ack = 1
+
+abbrev pub connectivity_number : Connectivity → ℕ
+connectivity_number Line.Disconnected = 1
+connectivity_number Line.Reconnected = 2
+connectivity_number Line.PeerUnavailable = 3
+connectivity_number Line.Registered = 4
+connectivity_number Line.PeerAvailable = 5
+
+-- ---- a number that a call takes as a code: one that is in no list is refused
+
+abbrev pub ReadsFrameKind : ℕ → Result FrameKind Refusal → Type 0
+ReadsFrameKind n (Ok what) = n ≡ frame_kind_number what
+ReadsFrameKind n (Err r) = (r ≡ UnknownCode) × (1 < n)
+
+abbrev pub ReadsConnectivity : ℕ → Result Connectivity Refusal → Type 0
+ReadsConnectivity n (Ok event) = n ≡ connectivity_number event
+ReadsConnectivity n (Err r) = (r ≡ UnknownCode) × ((n ≡ 0) ⊎ (5 < n))
+
+abbrev pub ReadsMode : ℕ → Result ReceiveMode Refusal → Type 0
+ReadsMode n (Ok mode) = (n ≤ 4) × (mode ≡ mode_of n)
+ReadsMode n (Err r) = (r ≡ UnknownCode) × (4 < n)
