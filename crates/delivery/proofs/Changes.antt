@@ -1,5 +1,5 @@
 -- What a proposal and a reject change in a turn. Assumes nothing.
-use Rattle.std.specs.Prelude.{if◌then◌else◌, None, Some}
+use Rattle.std.specs.Prelude.{if◌then◌else◌, Ok, Err}
 use mathlib.Core.Path.{◌≡◌, refl, sym, ap, ◌∙◌}
 use mathlib.Core.Bool.{Bool, true, false, not, ◌&&◌, ◌||◌, true≢false}
 use mathlib.Core.List.{List, [], ◌∷◌, ◌++◌}
@@ -7,7 +7,7 @@ use Prim.Native.Nat.{ℕ, ◌+◌, ◌≤◌, ◌<◌}
 use native.Mathlib.Omega.{arith}
 use lib.ListN.{length}
 use lib.Dec.{ltb, eqb}
-use borrow.Author.Tests.{lt-ltb, le-ltb, eq-eqb, ne_eqb}
+use borrow.Author.Tests.{lt-ltb, le-ltb, eq-eqb, ne_eqb, not-true, not-false}
 use Rattle.rules.specs.declared.Clock.{Clock}
 use Rattle.rules.specs.declared.Refusal.TheVariants.{NumbersExhausted, UnackedFull}
 use Rattle.rules.specs.Lists.{Bytes, empty, total}
@@ -58,14 +58,6 @@ alone-fits [] b e h = le-ltb 65536 (0 + length b) (omega arith)
 alone-fits (u ∷ us) b e h = let z : ◌≡◌ {A = ℕ} 0 1 = cc in absurd (omega arith)
 
 -- ---- the flags
-
-not-true : (t : Bool) → true ≡ not t → t ≡ false
-not-true true e = absurd (true≢false e)
-not-true false e = refl
-
-not-false : (t : Bool) → false ≡ not t → t ≡ true
-not-false true e = refl
-not-false false e = absurd (true≢false (sym e))
 
 empty_nil : {A : Type 0} (xs : List A) → empty xs ≡ true → xs ≡ []
 empty_nil [] e = refl
@@ -118,7 +110,7 @@ module _ (t : Turn) where
   under-other : (d : ℕ) → (d ≡ 4 → ⊥) → (s : R.State) → Under s t → Under s (acting t t.clock d t.unacked t.sent t.dropped)
   under-other d h s u = record { mode = u.mode; failed = u.failed; next = u.next; unacked = u.unacked; alone = u.alone; inbound = λ e. h; reject = u.reject }
 
-  pub proposal_other : (t.disposition ≡ 4 → ⊥) → Proposes t (record { turn = acting t t.clock 2 t.unacked t.sent t.dropped; stop = None })
+  pub proposal_other : (t.disposition ≡ 4 → ⊥) → Proposes t (Ok (acting t t.clock 2 t.unacked t.sent t.dropped))
   proposal_other h =
       record {
         does = λ s fs ws u. propose_other (during s fs ws t) (ne_eqb t.disposition 4 h);
@@ -130,7 +122,7 @@ module _ (t : Turn) where
   pub reject-none : t.unacked ≡ false → Rejects t (acting t t.clock 3 t.unacked t.sent t.dropped)
   reject-none e =
       record {
-        does = λ s fs ws u. discard_by (disposition_is 3 (during s fs ws t)) true (not-false _ (sym e ∙ u.unacked));
+        does = λ s fs ws u. discard_by (disposition_is 3 (during s fs ws t)) true (not-false _ (sym u.unacked ∙ e));
         under = under-other 3 (λ z. omega arith);
         remote = refl;
         slow = omega arith;
@@ -139,7 +131,7 @@ module _ (t : Turn) where
   pub reject_some : t.unacked ≡ true → Rejects t (acting t (raised-clock t.clock) 3 false t.sent true)
   reject_some e =
       record {
-        does = λ s fs ws u. discard_by (disposition_is 3 (during s fs ws t)) false (not-true _ (sym e ∙ u.unacked))
+        does = λ s fs ws u. discard_by (disposition_is 3 (during s fs ws t)) false (not-true _ (sym u.unacked ∙ e))
             ∙ ap (λ (us : List R.Unacked). raised (unacked_is us (disposition_is 3 (during s fs ws t)))) (sym (dropped_none s.outbox.next s.fixed.reject s.outbox.unacked t.sent));
         under = λ s u.
             record {
@@ -156,10 +148,10 @@ module _ (t : Turn) where
       }
 
   module _ (h : t.disposition ≡ 4) where
-    pub proposal_stands : t.unacked ≡ true → Proposes t (record { turn = t; stop = None })
+    pub proposal_stands : t.unacked ≡ true → Proposes t (Ok t)
     proposal_stands e =
         record {
-          does = λ s fs ws u. propose_by (during s fs ws t) false (eq-eqb t.disposition 4 h) (not-true _ (sym e ∙ u.unacked));
+          does = λ s fs ws u. propose_by (during s fs ws t) false (eq-eqb t.disposition 4 h) (not-true _ (sym u.unacked ∙ e));
           under = λ s u. u;
           remote = refl;
           slow = omega arith;
@@ -167,16 +159,16 @@ module _ (t : Turn) where
 
     module _ (e : t.unacked ≡ false) where
       still : (s : R.State) → Under s t → Idle s.outbox.next s.fixed.reject s.outbox.unacked t.sent t.dropped
-      still s u = idle s.outbox.next s.fixed.reject s.outbox.unacked t.sent t.dropped (λ d. u.inbound d h) (not-false _ (sym e ∙ u.unacked))
+      still s u = idle s.outbox.next s.fixed.reject s.outbox.unacked t.sent t.dropped (λ d. u.inbound d h) (not-false _ (sym u.unacked ∙ e))
 
       again : (s : R.State) (fs : List R.Frame) (ws : List ℕ) → Under s t → receive_proposal (during s fs ws t) ≡ reject_session (during s fs ws t)
-      again s fs ws u = propose_by (during s fs ws t) true (eq-eqb t.disposition 4 h) (not-false _ (sym e ∙ u.unacked))
+      again s fs ws u = propose_by (during s fs ws t) true (eq-eqb t.disposition 4 h) (not-false _ (sym u.unacked ∙ e))
 
       -- the number that it would be given
       number : (s : R.State) → Under s t → after_sending t.sent s.outbox.next ≡ t.next
       number s u = ap (λ (b : Bool). after_sending b s.outbox.next) (still s u).sent_not ∙ sym u.next
 
-      pub proposal_spent : 4294967295 < t.next → Proposes t (record { turn = t; stop = Some NumbersExhausted })
+      pub proposal_spent : 4294967295 < t.next → Proposes t (Err NumbersExhausted)
       proposal_spent k =
           record {
             does = λ s fs ws u.
@@ -186,7 +178,7 @@ module _ (t : Turn) where
             slow = omega arith;
           }
 
-      pub proposal_again : t.next ≤ 4294967295 → Proposes t (record { turn = acting t (raised-clock t.clock) t.disposition true true t.dropped; stop = None })
+      pub proposal_again : t.next ≤ 4294967295 → Proposes t (Ok (acting t (raised-clock t.clock) t.disposition true true t.dropped))
       unfolding numbered
       proposal_again k =
           record {
@@ -195,7 +187,7 @@ module _ (t : Turn) where
                 let x : Bytes = s.fixed.reject in
                 let us : List R.Unacked = s.outbox.unacked in
                 let i : Idle n x us t.sent t.dropped = still s u in
-                let none : acted t.sent t.dropped n x us ≡ [] = empty_nil _ (not-false _ (sym e ∙ u.unacked)) in
+                let none : acted t.sent t.dropped n x us ≡ [] = empty_nil _ (not-false _ (sym u.unacked ∙ e)) in
                 again s fs ws u
                 ∙ allocate-goes x 4 (during s fs ws t) (ap (ltb 4294967295) (number s u) ∙ le-ltb 4294967295 t.next k)
                 (alone-fits (acted t.sent t.dropped n x us) x none u.reject)

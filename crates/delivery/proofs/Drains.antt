@@ -1,6 +1,6 @@
 -- The drain's loop: what is left to do, a turn of it, and its ends. Assumes nothing.
 use mathlib.Core.Path.{◌≡◌, refl, sym, ap, ◌∙◌, subst}
-use mathlib.Core.Bool.{Bool, true, false}
+use mathlib.Core.Bool.{true, false}
 use mathlib.Core.List.{List, ◌∷◌}
 use mathlib.Core.Option.{some}
 use Prim.Native.Nat.{ℕ, suc, ◌+◌, ◌-◌, ◌*◌, ◌≤◌, ◌<◌}
@@ -14,18 +14,18 @@ use Rattle.rules.specs.State.{frame_number, frame_size, is_frame}
 use Rattle.rules.specs.Sound.{at_most}
 use Rattle.rules.specs.Progress.{Progress, stays, ◌then◌}
 use Rattle.rules.specs.Receiving.{other_than, deliver, next_frame, drains, drain}
-use Rattle.std.specs.Prelude.{Option, None, Some}
+use Rattle.std.specs.Prelude.{Option, None, Some, Result, Ok, Err}
 use Rattle.events.specs.Written.{Books, books, Within, final, ends}
 use Rattle.events.proofs.Laws.{write-none, then_goes, then_stops}
 use Rattle.numbers.specs.declared.Numbers.{Numbers}
 use Rattle.numbers.specs.Seats.{in_use, ExactNumbers}
 use Rattle.queue.specs.declared.Queue.{Queue}
-use Rattle.queue.specs.View.{len_q, used_q, frames_of}
+use Rattle.queue.specs.View.{len_q, frame, used_q, frames_of}
 use Rattle.queue.proofs.View.{frames-length}
 use Rattle.delivery.specs.declared.Turn.{Turn}
 use Rattle.delivery.specs.declared.Step.{Step}
 use Rattle.delivery.specs.declared.Drained.{Drained}
-use Rattle.delivery.specs.Turns.{during, Under, Ready, Delivered, left_by, acked_by, Draining, Drains}
+use Rattle.delivery.specs.Turns.{during, Under, Ready, Delivered, Draining, Drains}
 use Rattle.delivery.specs.Acts.{Available, Deliverable, drained_by}
 use Rattle.delivery.proofs.Queues.{queue_record_at, frame_at, with_last, turn_off, turn-none, turn_not, turn-goes, first-nothing, head-above, tail_above, kept-head, next-none, next_some, start-on, start_small, frames-step, body-size, size_step, number-last, put_more, exact_more, behind_more}
 
@@ -73,10 +73,6 @@ turns_none status t w x i q b a d e =
 abbrev drained : Turn → Numbers → ℕ → Books → Option Refusal → Drained
 drained t w i b z = drained_by t w i b.n b.at z
 
-pub drains_as : {status : HostStatus} {t : Turn} {w : Numbers} {x : Queue} {i : ℕ} {q : Bytes} {b : Books} {r r' : Drained} {l' : List ℕ} {d' : Bytes} → r ≡ r'
-    → Drains status t w x i q b r' l' d' → Drains status t w x i q b r l' d'
-drains_as {status} {t} {w} {x} {i} {q} {b} {r} {r'} {l'} {d'} e h = subst (λ (z : Drained). Drains status t w x i q b z l' d') (sym e) h
-
 module _ {status : HostStatus} {t₀ : Turn} {w₀ : Numbers} {x : Queue} {i₀ : ℕ} {q : Bytes} {b₀ : Books} {t : Turn} {w : Numbers} {i a : ℕ} {b : Books}
     (v : Turns status t₀ w₀ x i₀ q b₀ t w i a b) where
   abbrev fs : List R.Frame
@@ -102,14 +98,15 @@ module _ {status : HostStatus} {t₀ : Turn} {w₀ : Numbers} {x : Queue} {i₀ 
         short = omega (arith, v.short);
       }
 
-  pub out_empty : x.count ≤ i → Drains status t₀ w₀ x i₀ q b₀ (drained t w i b None) b.list b.delivery
+  pub out_empty : x.count ≤ i → Drains status t₀ w₀ x i₀ q b₀ (drained t w x.count b None) b.list b.delivery
   out_empty h =
       let n : length (frames_of x q) ≤ i = omega (arith, frames-length x q v.pre.exact) in
-      out (λ s u. turn-none status (st s) (first-nothing (t.remote + 1) (drop i (frames_of x q)) (drop_of_length-le (frames_of x q) n)))
+      let e : i ≡ x.count = omega (arith, v.within) in
+      subst (λ (k : ℕ). Drains status t₀ w₀ x i₀ q b₀ (drained t w k b None) b.list b.delivery) e
+      (out (λ s u. turn-none status (st s) (first-nothing (t.remote + 1) (drop i (frames_of x q)) (drop_of_length-le (frames_of x q) n))))
 
-  pub out_unavailable : (r : Bool) → Available status t r → r ≡ false
-      → Drains status t₀ w₀ x i₀ q b₀ (drained t w i b None) b.list b.delivery
-  out_unavailable r g e = out (λ s u. turn_off status (st s) (sym (g s fs (in_use w) u) ∙ e))
+  pub out_unavailable : Available status t false → Drains status t₀ w₀ x i₀ q b₀ (drained t w i b None) b.list b.delivery
+  out_unavailable g = out (λ s u. turn_off status (st s) (sym (g s fs (in_use w) u)))
 
   module _ (h : i < x.count) where
     abbrev f : R.Frame
@@ -147,6 +144,14 @@ module _ {status : HostStatus} {t₀ : Turn} {w₀ : Numbers} {x : Queue} {i₀ 
           bytes = omega (arith, v.short, v.delivery, v.pre.bytes, size);
         }
 
+    -- a body that lies there
+    pub ready_for : {y : Bytes} → y ≡ (frame_at x i a q).body → Ready t (length y) (length b.list) b.n (length b.delivery) b.at
+    ready_for e = subst (λ (k : ℕ). Ready t k (length b.list) b.n (length b.delivery) b.at) (sym (ap length e ∙ body-size x q v.pre.exact i a v.start h)) ready
+
+    pub lying : {y : Bytes} → y ≡ (frame_at x i a q).body → {r : Result Step Refusal} {l' : List ℕ} {d' : Bytes}
+        → Delivered (frame (queue_record_at x i) y) t b r l' d' → Delivered (frame_at x i a q) t b r l' d'
+    lying e {r} {l'} {d'} g = subst (λ (z : Bytes). Delivered (frame (queue_record_at x i) z) t b r l' d') e g
+
     pub out_later : ((queue_record_at x i).number ≡ t.remote + 1 → ⊥)
         → Drains status t₀ w₀ x i₀ q b₀ (drained t w i b None) b.list b.delivery
     out_later ne = out (λ s y. turn-none status (st s) (ap (first (is_frame (t.remote + 1))) step ∙ next-none t.remote f rest rises ne))
@@ -155,22 +160,14 @@ module _ {status : HostStatus} {t₀ : Turn} {w₀ : Numbers} {x : Queue} {i₀ 
       found : (s : R.State) → next_frame (st s) ≡ some f
       found s = ap (first (is_frame (t.remote + 1))) step ∙ next_some t.remote f rest rises is
 
-      pub out_undeliverable : (r : Bool) → Deliverable (queue_record_at x i).number (queue_record_at x i).kind t r → r ≡ false
+      pub out_undeliverable : Deliverable (queue_record_at x i).number (queue_record_at x i).kind t false
           → Drains status t₀ w₀ x i₀ q b₀ (drained t w i b None) b.list b.delivery
-      out_undeliverable r g e = out (λ s y. turn_not status (st s) f (found s) (sym (g f.body s fs (in_use w) y) ∙ e))
+      out_undeliverable g = out (λ s y. turn_not status (st s) f (found s) (sym (g f.body s fs (in_use w) y)))
 
       -- a delivery
-      module _ (av : Bool) (av-is : Available status t av) (on : av ≡ true)
-          (de : Bool) (de-is : Deliverable (queue_record_at x i).number (queue_record_at x i).kind t de) (yes : de ≡ true)
-          (r : Step) (l' : List ℕ) (d' : Bytes) (g : Delivered (frame_at x i a q) t b r l' d') where
-        abbrev b' : Books
-        b' = books l' r.events d' r.at
-
-        abbrev w' : Numbers
-        w' = with_last (queue_record_at x i).number w
-
+      module _ (on : Available status t true) (yes : Deliverable (queue_record_at x i).number (queue_record_at x i).kind t true) where
         turn : (s : R.State) → Under s t → (k : ℕ) → drains (suc k) status (st s) ≡ (deliver f (st s) then drains k status)
-        turn s y k = turn-goes status (st s) f (sym (av-is s fs (in_use w) y) ∙ on) (found s) (sym (de-is f.body s fs (in_use w) y) ∙ yes) k
+        turn s y k = turn-goes status (st s) f (sym (on s fs (in_use w) y)) (found s) (sym (yes f.body s fs (in_use w) y)) k
 
         count : x.count - i ≡ suc (x.count - (i + 1))
         count = omega arith
@@ -178,62 +175,67 @@ module _ {status : HostStatus} {t₀ : Turn} {w₀ : Numbers} {x : Queue} {i₀ 
         body : length (frame_at x i a q).body ≡ (queue_record_at x i).len
         body = body-size x q v.pre.exact i a v.start h
 
-        pub out_refused : (z : Refusal) → r.stop ≡ Some z
-            → Drains status t₀ w₀ x i₀ q b₀ (drained r.turn w i (books l' r.events d' r.at) (Some z)) l' d'
-        out_refused z e =
+        pub out_refused : {z : Refusal} {l' : List ℕ} {d' : Bytes} → Delivered (frame_at x i a q) t b (Err z) l' d'
+            → Drains status t₀ w₀ x i₀ q b₀ (drained t w i b (Some z)) l' d'
+        out_refused {z} {l'} {d'} g =
             record {
               does = λ s us y.
                   sym (v.left s us y)
                   ∙ ap (λ (k : ℕ). final us (drains k status (st s)) b) count
                   ∙ ap (λ (p : Progress). final us p b) (turn s (v.under s y) (x.count - (i + 1)))
-                  ∙ then_stops us (deliver f (st s)) (drains (x.count - (i + 1)) status) b b' z (during s fs (in_use w) r.turn)
-                  (g.does s fs (in_use w) us (v.under s y)
-                  ∙ ap (λ (y : Option Refusal). ends y (during s (left_by y f.number fs) (acked_by y f.number (in_use w)) r.turn) b') e);
-              under = λ s y. g.under s (v.under s y);
+                  ∙ then_stops us (deliver f (st s)) (drains (x.count - (i + 1)) status) b (books l' b.n d' b.at) z (st s)
+                  (g.does s fs (in_use w) us (v.under s y));
+              under = v.under;
               waits = v.waits;
               within = v.within;
-              slow = omega (arith, v.slow, g.slow);
-              few = omega (arith, v.few, g.few);
-              short = omega (arith, v.short, g.short, size, body);
+              slow = omega (arith, v.slow);
+              few = omega (arith, v.few);
+              short = omega (arith, v.short);
             }
 
-        -- an ack above all that wait
-        put_is : put itself f.number (in_use w) ≡ in_use w'
-        put_is = put_more w v.waits has_room t.remote (queue_record_at x i).number (omega arith) v.behind
+        module _ {r : Step} {l' : List ℕ} {d' : Bytes} (g : Delivered (frame_at x i a q) t b (Ok r) l' d') where
+          abbrev b' : Books
+          b' = books l' r.events d' r.at
 
-        goes_on : (s : R.State) (us : List R.Unacked) (k : ℕ) → Under s t → r.stop ≡ None
-            → final us (drains (suc k) status (st s)) b ≡ final us (drains k status (during s rest (in_use w') r.turn)) b'
-        goes_on s us k y e =
-            ap (λ (p : Progress). final us p b) (turn s y k)
-            ∙ then_goes us (deliver f (st s)) (drains k status) b b' (during s rest (in_use w') r.turn) turns_within
-            (g.does s fs (in_use w) us y
-            ∙ ap (λ (y : Option Refusal). ends y (during s (left_by y f.number fs) (acked_by y f.number (in_use w)) r.turn) b') e
-            ∙ ap (λ (l : List R.Frame). ends None (during s l (put itself f.number (in_use w)) r.turn) b')
-            (ap (kept (other_than f.number)) step ∙ kept-head t.remote f rest rises)
-            ∙ ap (λ (l : List ℕ). ends None (during s rest l r.turn) b') put_is)
+          abbrev w' : Numbers
+          w' = with_last (queue_record_at x i).number w
 
-        pub turns_more : r.stop ≡ None → length l' ≡ length b.list → length d' ≡ length b.delivery
-            → Turns status t₀ w₀ x i₀ q b₀ r.turn (with_last (queue_record_at x i).number w) (i + 1)
-            (a + (queue_record_at x i).len) (books l' r.events d' r.at)
-        turns_more e ll ld =
-            record {
-              pre = v.pre;
-              waits = exact_more w v.waits has_room t.remote (queue_record_at x i).number (omega arith) v.behind;
-              within = omega arith;
-              start = start-on x q v.pre.exact i a v.start h;
-              order = subst (λ (n : ℕ). rising frame_number n rest ≡ true) (sym (g.remote e)) (tail_above t.remote f rest rises);
-              behind =
-                  subst (λ (n : ℕ). all (at_most n) (in_use w') ≡ true) (sym (g.remote e))
-                  (behind_more w v.waits has_room t.remote (queue_record_at x i).number (omega arith) v.behind);
-              many = omega (arith, v.many);
-              slow = omega (arith, v.slow, g.slow);
-              few = omega (arith, v.few, g.few);
-              short = omega (arith, v.short, g.short, size, body);
-              list = ll ∙ v.list;
-              delivery = ld ∙ v.delivery;
-              under = λ s y. g.under s (v.under s y);
-              left = λ s us y.
-                  sym (goes_on s us (x.count - (i + 1)) (v.under s y) e)
-                  ∙ ap (λ (k : ℕ). final us (drains k status (st s)) b) (sym count)
-                  ∙ v.left s us y;
-            }
+          -- an ack above all that wait
+          put_is : put itself f.number (in_use w) ≡ in_use w'
+          put_is = put_more w v.waits has_room t.remote (queue_record_at x i).number (omega arith) v.behind
+
+          goes_on : (s : R.State) (us : List R.Unacked) (k : ℕ) → Under s t
+              → final us (drains (suc k) status (st s)) b ≡ final us (drains k status (during s rest (in_use w') r.turn)) b'
+          goes_on s us k y =
+              ap (λ (p : Progress). final us p b) (turn s y k)
+              ∙ then_goes us (deliver f (st s)) (drains k status) b b' (during s rest (in_use w') r.turn) turns_within
+              (g.does s fs (in_use w) us y
+              ∙ ap (λ (l : List R.Frame). ends None (during s l (put itself f.number (in_use w)) r.turn) b')
+              (ap (kept (other_than f.number)) step ∙ kept-head t.remote f rest rises)
+              ∙ ap (λ (l : List ℕ). ends None (during s rest l r.turn) b') put_is)
+
+          pub turns_more : length l' ≡ length b.list → length d' ≡ length b.delivery
+              → Turns status t₀ w₀ x i₀ q b₀ r.turn (with_last (queue_record_at x i).number w) (i + 1)
+              (a + (queue_record_at x i).len) (books l' r.events d' r.at)
+          turns_more ll ld =
+              record {
+                pre = v.pre;
+                waits = exact_more w v.waits has_room t.remote (queue_record_at x i).number (omega arith) v.behind;
+                within = omega arith;
+                start = start-on x q v.pre.exact i a v.start h;
+                order = subst (λ (n : ℕ). rising frame_number n rest ≡ true) (sym (g.remote refl)) (tail_above t.remote f rest rises);
+                behind =
+                    subst (λ (n : ℕ). all (at_most n) (in_use w') ≡ true) (sym (g.remote refl))
+                    (behind_more w v.waits has_room t.remote (queue_record_at x i).number (omega arith) v.behind);
+                many = omega (arith, v.many);
+                slow = omega (arith, v.slow, g.slow);
+                few = omega (arith, v.few, g.few);
+                short = omega (arith, v.short, g.short, size, body);
+                list = ll ∙ v.list;
+                delivery = ld ∙ v.delivery;
+                under = λ s y. g.under s (v.under s y);
+                left = λ s us y.
+                    sym (goes_on s us (x.count - (i + 1)) (v.under s y))
+                    ∙ ap (λ (k : ℕ). final us (drains k status (st s)) b) (sym count)
+                    ∙ v.left s us y;
+              }

@@ -1,5 +1,6 @@
 -- What a mode does with a message, and a delivery, against the rule book. Assumes nothing.
-use mathlib.Core.Path.{◌≡◌, refl, sym, ap, ◌∙◌}
+use mathlib.Core.Path.{◌≡◌, refl, sym, ap, ◌∙◌, subst}
+use mathlib.Core.Logic.{◌⊎◌, inl, inr}
 use mathlib.Core.List.{List}
 use Prim.Native.Nat.{ℕ, ◌+◌, ◌≤◌}
 use native.Mathlib.Omega.{arith}
@@ -15,18 +16,14 @@ use Rattle.rules.specs.Progress.{Progress, stays, halts, ◌then◌, request}
 use Rattle.rules.specs.Setup.{receive_proposal}
 use Rattle.rules.specs.Receiving.{delivered, hand_over, consume, confirm, deliver}
 use Rattle.rules.proofs.Progress.{listing_none}
-use Rattle.std.specs.Prelude.{Option, None, Some}
-use Rattle.events.specs.Written.{Listed, asked, Books, books, Within, final, ends, ended}
+use Rattle.std.specs.Prelude.{None, Some, Result, Ok, Err}
+use Rattle.events.specs.Written.{Listed, asked, Books, books, Within, final, ends}
 use Rattle.events.proofs.Laws.{write-none, then_goes, then_stops}
 use Rattle.delivery.specs.declared.Turn.{Turn}
 use Rattle.delivery.specs.declared.Step.{Step}
-use Rattle.delivery.specs.declared.Proposed.{Proposed}
-use Rattle.delivery.specs.Turns.{during, Under, Ready, Consumed, Delivered, left_by, acked_by}
+use Rattle.delivery.specs.Turns.{during, Under, step_at, Ready, Consumed, Delivered, left_by, acked_by}
 use Rattle.delivery.specs.Acts.{HandedOver, Proposes, Rejects, Did, rejected, taken, answered}
 use Rattle.delivery.proofs.Written.{write-message, write-asked, few-asked}
-
-abbrev stepping : Turn → ℕ → ℕ → Option Refusal → Step
-stepping t n at x = record { turn = t; events = n; at = at; stop = x }
 
 pub ready-within : {t : Turn} {len : ℕ} (l : List ℕ) (n : ℕ) (d : Bytes) (at : ℕ) → Ready t len (length l) n (length d) at → Within (books l n d at)
 ready-within l n d at r = record { listed = omega (arith, r.room); filled = omega (arith, r.bytes) }
@@ -34,7 +31,7 @@ ready-within l n d at r = record { listed = omega (arith, r.room); filled = omeg
 -- ---- steps that leave the turn as it is
 
 module _ (t : Turn) (b : Books) where
-  pub did_stays : (len : ℕ) → Did (λ s. stays s) len t b (stepping t b.n b.at None) b.list b.delivery
+  pub did_stays : (len : ℕ) → Did (λ s. stays s) len t b (Ok (step_at t b.n b.at)) b.list b.delivery
   did_stays len =
       record {
         does = λ s fs ws us u. ap (ends None (during s fs ws t)) (write-none us b);
@@ -45,7 +42,7 @@ module _ (t : Turn) (b : Books) where
         short = omega arith;
       }
 
-  pub did_halts : (x : Refusal) (len : ℕ) → Did (λ s. halts x s) len t b (stepping t b.n b.at (Some x)) b.list b.delivery
+  pub did_halts : (x : Refusal) (len : ℕ) → Did (λ s. halts x s) len t b (Err x) b.list b.delivery
   did_halts x len =
       record {
         does = λ s fs ws us u. ap (ends (Some x) (during s fs ws t)) (write-none us b);
@@ -56,74 +53,76 @@ module _ (t : Turn) (b : Books) where
         short = omega arith;
       }
 
-  pub did_message : (f : R.Frame) (l' : List ℕ) (d' : Bytes) → HandedOver f.number f.body b.list b.n b.delivery b.at l' d'
-      → Did (hand_over f) (length f.body) t b (stepping t (b.n + 1) (b.at + length f.body) None) l' d'
-  did_message f l' d' h =
-      record {
+  pub did_message : (f : R.Frame) {y : Step} {l' : List ℕ} {d' : Bytes} → HandedOver f.number f.body b.list b.n b.delivery b.at l' d'
+      → y ≡ step_at t (b.n + 1) (b.at + length f.body) → Did (hand_over f) (length f.body) t b (Ok y) l' d'
+  did_message f {y} {l'} {d'} h e =
+      subst (λ (z : Step). Did (hand_over f) (length f.body) t b (Ok z) l' d') (sym e)
+      (record {
         does = λ s fs ws us u. ap (ends None (during s fs ws t)) (write-message f.number f.body b l' d' h us);
         under = λ s u. u;
         remote = refl;
         slow = omega arith;
         few = omega arith;
         short = omega arith;
-      }
+      })
 
-  pub did_request : (len : ℕ) (l' : List ℕ) (k : ℕ) → Listed (asked t.clock) b.list b.n l' k → Did request len t b (stepping t k b.at None) l' b.delivery
+  pub did_request : (len : ℕ) {y : Step} {l' : List ℕ} → Listed (asked t.clock) b.list b.n l' y.events → y ≡ step_at t y.events b.at
+      → Did request len t b (Ok y) l' b.delivery
   unfolding request
-  did_request len l' k h =
-      record {
-        does = λ s fs ws us u. ap (ends None (during s fs ws t)) (write-asked t.clock b l' k h us);
+  did_request len {y} {l'} h e =
+      subst (λ (z : Step). Did request len t b (Ok z) l' b.delivery) (sym e)
+      (record {
+        does = λ s fs ws us u. ap (ends None (during s fs ws t)) (write-asked t.clock b l' y.events h us);
         under = λ s u. u;
         remote = refl;
         slow = omega arith;
-        few = few-asked t.clock b l' k h;
+        few = few-asked t.clock b l' y.events h;
         short = omega arith;
-      }
+      })
 
 -- ---- a step after what changes the turn and lists nothing
 
 module _ (t : Turn) (b : Books) (len : ℕ) where
-  module _ (a : Proposed) (p : Proposes t a) where
-    pub proposal_then : (g : R.State → Progress) → a.stop ≡ None → (n at : ℕ) (l' : List ℕ) (d' : Bytes)
-        → Did g len a.turn b (stepping a.turn n at None) l' d' → Did (λ s. receive_proposal s then g) len t b (stepping a.turn n at None) l' d'
-    proposal_then g e n at l' d' h =
-        record {
-          does = λ s fs ws us u.
-              ap (λ (q : Progress). final us (q then g) b) (p.does s fs ws u ∙ ap (λ (x : Option Refusal). ended x (during s fs ws a.turn)) e)
-              ∙ ap (λ (q : Progress). final us q b) (listing_none (g (during s fs ws a.turn)))
-              ∙ h.does s fs ws us (p.under s u);
-          under = p.under;
-          remote = p.remote;
-          slow = p.slow;
-          few = h.few;
-          short = h.short;
-        }
-
-    pub proposal_refused : (g : R.State → Progress) (x : Refusal) → a.stop ≡ Some x
-        → Did (λ s. receive_proposal s then g) len t b (stepping a.turn b.n b.at (Some x)) b.list b.delivery
-    proposal_refused g x e =
-        record {
-          does = λ s fs ws us u.
-              ap (λ (q : Progress). final us (q then g) b) (p.does s fs ws u ∙ ap (λ (x : Option Refusal). ended x (during s fs ws a.turn)) e)
-              ∙ ap (ends (Some x) (during s fs ws a.turn)) (write-none us b);
-          under = p.under;
-          remote = p.remote;
-          slow = p.slow;
-          few = omega arith;
-          short = omega arith;
-        }
-
-  pub reject_then : (r : Turn) → Rejects t r → (n at : ℕ) (l' : List ℕ) (d' : Bytes) → Did request len r b (stepping r n at None) l' d'
-      → Did rejected len t b (stepping r n at None) l' d'
-  reject_then r p n at l' d' h =
+  pub proposal_then : {a : Turn} → Proposes t (Ok a) → (g : R.State → Progress) → {y : Step} {l' : List ℕ} {d' : Bytes} → y.turn ≡ a
+      → Did g len a b (Ok y) l' d' → Did (λ s. receive_proposal s then g) len t b (Ok y) l' d'
+  proposal_then {a} p g e h =
       record {
         does = λ s fs ws us u.
-            ap (λ (z : R.State). final us (stays z then request) b) (p.does s fs ws u)
-            ∙ ap (λ (q : Progress). final us q b) (listing_none (request (during s fs ws r)))
+            ap (λ (q : Progress). final us (q then g) b) (p.does s fs ws u)
+            ∙ ap (λ (q : Progress). final us q b) (listing_none (g (during s fs ws a)))
             ∙ h.does s fs ws us (p.under s u);
+        under = λ s u. h.under s (p.under s u);
+        remote = h.remote ∙ p.remote;
+        slow = omega (arith, p.slow, ap (λ (z : Turn). z.clock.generation) e);
+        few = h.few;
+        short = h.short;
+      }
+
+  pub proposal_refused : {x : Refusal} → Proposes t (Err x) → (g : R.State → Progress)
+      → Did (λ s. receive_proposal s then g) len t b (Err x) b.list b.delivery
+  proposal_refused {x} p g =
+      record {
+        does = λ s fs ws us u.
+            ap (λ (q : Progress). final us (q then g) b) (p.does s fs ws u)
+            ∙ ap (ends (Some x) (during s fs ws t)) (write-none us b);
         under = p.under;
         remote = p.remote;
         slow = p.slow;
+        few = omega arith;
+        short = omega arith;
+      }
+
+  pub reject_then : {a : Turn} → Rejects t a → {y : Step} {l' : List ℕ} {d' : Bytes} → y.turn ≡ a → Did request len a b (Ok y) l' d'
+      → Did rejected len t b (Ok y) l' d'
+  reject_then {a} p e h =
+      record {
+        does = λ s fs ws us u.
+            ap (λ (z : R.State). final us (stays z then request) b) (p.does s fs ws u)
+            ∙ ap (λ (q : Progress). final us q b) (listing_none (request (during s fs ws a)))
+            ∙ h.does s fs ws us (p.under s u);
+        under = λ s u. h.under s (p.under s u);
+        remote = h.remote ∙ p.remote;
+        slow = omega (arith, p.slow, ap (λ (z : Turn). z.clock.generation) e);
         few = h.few;
         short = h.short;
       }
@@ -135,13 +134,10 @@ module _ (f : R.Frame) (st : R.State) where
   unfolding consume
   raw_is = refl
 
-  pub channel_is : consume Channel f st ≡ stays st
+  pub idle_is : (m : ReceiveMode) → (m ≡ Channel) ⊎ (m ≡ Retiring) → consume m f st ≡ stays st
   unfolding consume
-  channel_is = refl
-
-  pub retiring_is : consume Retiring f st ≡ stays st
-  unfolding consume
-  retiring_is = refl
+  idle_is m (inl e) = rw e refl
+  idle_is m (inr e) = rw e refl
 
   pub proposal_reject : f.kind ≡ 2 → consume Proposal f st ≡ rejected st
   unfolding consume
@@ -151,27 +147,21 @@ module _ (f : R.Frame) (st : R.State) where
   unfolding consume
   proposal_first h p q = rw (ne_eqb f.kind 2 h, eq-eqb f.number 1 p, eq-eqb f.kind 1 q) refl
 
-  pub proposal_later : (f.kind ≡ 2 → ⊥) → (f.number ≡ 1 → ⊥) → consume Proposal f st ≡ halts NotAProposal st
+  pub proposal_another : (f.kind ≡ 2 → ⊥) → ((f.number ≡ 1) × (f.kind ≡ 1 → ⊥)) ⊎ (f.number ≡ 1 → ⊥) → consume Proposal f st ≡ halts NotAProposal st
   unfolding consume
-  proposal_later h p = rw (ne_eqb f.kind 2 h, ne_eqb f.number 1 p) refl
-
-  pub proposal_another : (f.kind ≡ 2 → ⊥) → f.number ≡ 1 → (f.kind ≡ 1 → ⊥) → consume Proposal f st ≡ halts NotAProposal st
-  unfolding consume
-  proposal_another h p q = rw (ne_eqb f.kind 2 h, eq-eqb f.number 1 p, ne_eqb f.kind 1 q) refl
+  proposal_another h (inl (p, q)) = rw (ne_eqb f.kind 2 h, eq-eqb f.number 1 p, ne_eqb f.kind 1 q) refl
+  proposal_another h (inr p) = rw (ne_eqb f.kind 2 h, ne_eqb f.number 1 p) refl
 
   pub rejection_first : f.number ≡ 1 → f.kind ≡ 1 → consume Rejection f st ≡ answered st
   unfolding consume
   rejection_first p q = rw (eq-eqb f.number 1 p, eq-eqb f.kind 1 q) refl
 
-  pub rejection_later : (f.number ≡ 1 → ⊥) → consume Rejection f st ≡ stays st
+  pub rejection_another : ((f.number ≡ 1) × (f.kind ≡ 1 → ⊥)) ⊎ (f.number ≡ 1 → ⊥) → consume Rejection f st ≡ stays st
   unfolding consume
-  rejection_later p = rw (ne_eqb f.number 1 p) refl
+  rejection_another (inl (p, q)) = rw (eq-eqb f.number 1 p, ne_eqb f.kind 1 q) refl
+  rejection_another (inr p) = rw (ne_eqb f.number 1 p) refl
 
-  pub rejection_another : f.number ≡ 1 → (f.kind ≡ 1 → ⊥) → consume Rejection f st ≡ stays st
-  unfolding consume
-  rejection_another p q = rw (eq-eqb f.number 1 p, ne_eqb f.kind 1 q) refl
-
-pub did_consumed : {t : Turn} {m : ReceiveMode} {p : R.State → Progress} {len : ℕ} {b : Books} {r : Step} {l' : List ℕ} {d' : Bytes} (f : R.Frame)
+pub did_consumed : {t : Turn} {m : ReceiveMode} {p : R.State → Progress} {len : ℕ} {b : Books} {r : Result Step Refusal} {l' : List ℕ} {d' : Bytes} (f : R.Frame)
     → t.mode ≡ m → ((st : R.State) → consume m f st ≡ p st) → len ≤ length f.body → Did p len t b r l' d' → Consumed f t b r l' d'
 did_consumed {t} {m} {p} {len} {b} {r} {l'} {d'} f e c h g =
     record {
@@ -212,17 +202,13 @@ under_confirmed : (n : ℕ) (t : Turn) (s : R.State) → Under s t → Under s (
 under_confirmed n t s u =
     record { mode = u.mode; failed = u.failed; next = u.next; unacked = u.unacked; alone = u.alone; inbound = u.inbound; reject = u.reject }
 
-module _ (f : R.Frame) (t : Turn) (b : Books) (w : Within b) (a : Step) (l' : List ℕ) (d' : Bytes) (c : Consumed f t b a l' d') where
-  abbrev after : Books
-  after = books l' a.events d' a.at
-
-  pub deliver-stops : (x : Refusal) → a.stop ≡ Some x → Delivered f t b (stepping a.turn a.events a.at (Some x)) l' d'
+module _ (f : R.Frame) (t : Turn) (b : Books) (l' : List ℕ) (d' : Bytes) where
+  pub deliver-stops : {x : Refusal} → Consumed f t b (Err x) l' d' → Delivered f t b (Err x) l' d'
   unfolding deliver
-  deliver-stops x e =
+  deliver-stops {x} c =
       record {
         does = λ s fs ws us u.
-            then_stops us (consume s.stage.mode f (during s fs ws t)) (confirm f.number) b after x (during s fs ws a.turn)
-            (c.does s fs ws us u ∙ ap (λ (y : Option Refusal). ends y (during s fs ws a.turn) after) e);
+            then_stops us (consume s.stage.mode f (during s fs ws t)) (confirm f.number) b (books l' b.n d' b.at) x (during s fs ws t) (c.does s fs ws us u);
         under = c.under;
         remote = λ z. let y : ◌≡◌ {A = ℕ} 0 1 = cc in absurd (omega arith);
         slow = omega (arith, c.slow);
@@ -230,19 +216,21 @@ module _ (f : R.Frame) (t : Turn) (b : Books) (w : Within b) (a : Step) (l' : Li
         short = c.short;
       }
 
-  pub deliver-goes : a.stop ≡ None → (l'' : List ℕ) (k : ℕ) → Listed (asked (confirmed f.number a.turn).clock) l' a.events l'' k
-      → Delivered f t b (stepping (confirmed f.number a.turn) k a.at None) l'' d'
+  pub deliver-goes : (w : Within b) (a : Step) → Consumed f t b (Ok a) l' d' → {y : Step} {l'' : List ℕ}
+      → Listed (asked (confirmed f.number a.turn).clock) l' a.events l'' y.events → y ≡ step_at (confirmed f.number a.turn) y.events a.at
+      → Delivered f t b (Ok y) l'' d'
   unfolding deliver request delivered
-  deliver-goes e l'' k h =
-      record {
+  deliver-goes w a c {y} {l''} h e =
+      let after : Books = books l' a.events d' a.at in
+      subst (λ (z : Step). Delivered f t b (Ok z) l'' d') (sym e)
+      (record {
         does = λ s fs ws us u.
-            then_goes us (consume s.stage.mode f (during s fs ws t)) (confirm f.number) b after (during s fs ws a.turn) w
-            (c.does s fs ws us u ∙ ap (λ (y : Option Refusal). ends y (during s fs ws a.turn) after) e)
+            then_goes us (consume s.stage.mode f (during s fs ws t)) (confirm f.number) b after (during s fs ws a.turn) w (c.does s fs ws us u)
             ∙ ap (ends None (during s (left_by None f.number fs) (acked_by None f.number ws) (confirmed f.number a.turn)))
-            (write-asked (confirmed f.number a.turn).clock after l'' k h us);
+            (write-asked (confirmed f.number a.turn).clock after l'' y.events h us);
         under = λ s u. under_confirmed f.number a.turn s (c.under s u);
         remote = λ z. refl;
         slow = omega (arith, c.slow);
-        few = omega (arith, c.few, few-asked (confirmed f.number a.turn).clock after l'' k h);
+        few = omega (arith, c.few, few-asked (confirmed f.number a.turn).clock after l'' y.events h);
         short = c.short;
-      }
+      })

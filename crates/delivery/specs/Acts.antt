@@ -1,5 +1,5 @@
 -- The contracts of what a delivery is made of. Assumes nothing.
-use Rattle.std.specs.Prelude.{ℕ, ◌+◌, ◌*◌, ◌≤◌, ◌≡◌, Bool, List, [], ◌∷◌, Option}
+use Rattle.std.specs.Prelude.{ℕ, ◌+◌, ◌*◌, ◌≤◌, ◌≡◌, Bool, List, [], ◌∷◌, Option, Result}
 use Rattle.stores.specs.Placed.{placed}
 use Rattle.rules.specs.declared.HostStatus.{HostStatus}
 use Rattle.rules.specs.declared.ReceiveMode.{ReceiveMode}
@@ -12,12 +12,11 @@ use Rattle.rules.specs.Setup.{receive_proposal, reject_inbound}
 use Rattle.rules.specs.Receiving.{available, deliverable, hand_over}
 use Rattle.numbers.specs.declared.Numbers.{Numbers}
 use Rattle.rules.specs.declared.Refusal.{Refusal}
-use Rattle.events.specs.Written.{Books, books, final, ends, ended}
+use Rattle.events.specs.Written.{Books, books, final, ends, ended, stopped_by, reached}
 use Rattle.delivery.specs.declared.Turn.{Turn}
 use Rattle.delivery.specs.declared.Step.{Step}
-use Rattle.delivery.specs.declared.Proposed.{Proposed}
 use Rattle.delivery.specs.declared.Drained.{Drained}
-use Rattle.delivery.specs.Turns.{during, Under, Ready, frame_of}
+use Rattle.delivery.specs.Turns.{during, Under, Ready, frame_of, step_at, ended_at}
 
 -- ---- what is written
 
@@ -28,11 +27,12 @@ pub record HandedOver (number : ℕ) (body : Bytes) (l : List ℕ) (n : ℕ) (d 
 
 -- ---- what changes a turn and lists nothing
 
-pub record Proposes (t : Turn) (r : Proposed) : Type 0 where
-  pub does : (s : R.State) (fs : List R.Frame) (ws : List ℕ) → Under s t → receive_proposal (during s fs ws t) ≡ ended r.stop (during s fs ws r.turn)
-  pub under : (s : R.State) → Under s t → Under s r.turn
-  pub remote : r.turn.remote ≡ t.remote
-  pub slow : r.turn.clock.generation ≤ t.clock.generation + 1
+pub record Proposes (t : Turn) (r : Result Turn Refusal) : Type 0 where
+  pub does : (s : R.State) (fs : List R.Frame) (ws : List ℕ) → Under s t
+      → receive_proposal (during s fs ws t) ≡ ended (stopped_by r) (during s fs ws (reached t r))
+  pub under : (s : R.State) → Under s t → Under s (reached t r)
+  pub remote : (reached t r).remote ≡ t.remote
+  pub slow : (reached t r).clock.generation ≤ t.clock.generation + 1
 
 pub record Rejects (t : Turn) (r : Turn) : Type 0 where
   pub does : (s : R.State) (fs : List R.Frame) (ws : List ℕ) → Under s t → reject_inbound (during s fs ws t) ≡ during s fs ws r
@@ -42,14 +42,15 @@ pub record Rejects (t : Turn) (r : Turn) : Type 0 where
 
 -- ---- what changes a turn and the books: one of the rule book's steps p, that hands at most len bytes over
 
-pub record Did (p : R.State → Progress) (len : ℕ) (t : Turn) (b : Books) (r : Step) (l' : List ℕ) (d' : Bytes) : Type 0 where
+pub record Did (p : R.State → Progress) (len : ℕ) (t : Turn) (b : Books) (r : Result Step Refusal) (l' : List ℕ) (d' : Bytes) : Type 0 where
   pub does : (s : R.State) (fs : List R.Frame) (ws : List ℕ) (us : List R.Unacked) → Under s t
-      → final us (p (during s fs ws t)) b ≡ ends r.stop (during s fs ws r.turn) (books l' r.events d' r.at)
-  pub under : (s : R.State) → Under s t → Under s r.turn
-  pub remote : r.turn.remote ≡ t.remote
-  pub slow : r.turn.clock.generation ≤ t.clock.generation + 1
-  pub few : r.events ≤ b.n + 1
-  pub short : r.at ≤ b.at + len
+      → final us (p (during s fs ws t)) b
+      ≡ ends (stopped_by r) (during s fs ws (ended_at t b r).turn) (books l' (ended_at t b r).events d' (ended_at t b r).at)
+  pub under : (s : R.State) → Under s t → Under s (ended_at t b r).turn
+  pub remote : (ended_at t b r).turn.remote ≡ t.remote
+  pub slow : (ended_at t b r).turn.clock.generation ≤ t.clock.generation + 1
+  pub few : (ended_at t b r).events ≤ b.n + 1
+  pub short : (ended_at t b r).at ≤ b.at + len
 
 -- a reject
 abbrev pub rejected : R.State → Progress
@@ -83,4 +84,4 @@ Deliverable n k t r = (b : Bytes) → Answers (deliverable (frame_of n k b)) t r
 -- ---- a drain that is done
 
 abbrev pub drained_by : Turn → Numbers → ℕ → ℕ → ℕ → Option Refusal → Drained
-drained_by t w i n at z = record { turn = t; waiting = w; taken = i; events = n; at = at; stop = z }
+drained_by t w i n at z = record { step = step_at t n at; waiting = w; taken = i; stop = z }

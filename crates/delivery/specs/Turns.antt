@@ -1,5 +1,5 @@
 -- A call under way that delivers: the state that a turn stands for. Assumes nothing.
-use Rattle.std.specs.Prelude.{ℕ, ◌+◌, ◌-◌, ◌*◌, ◌≤◌, ◌≡◌, Bool, true, false, not, List, [], ◌∷◌, ◌++◌, length, drop, Option, None, Some}
+use Rattle.std.specs.Prelude.{ℕ, ◌+◌, ◌-◌, ◌*◌, ◌≤◌, ◌≡◌, Bool, true, false, not, List, [], ◌∷◌, ◌++◌, length, drop, Option, None, Some, Result}
 use Rattle.rules.specs.declared.HostStatus.{HostStatus}
 use Rattle.rules.specs.Lists.{Bytes, empty, kept, all, total, put, rising, itself}
 use Rattle.rules.specs.State as R
@@ -8,13 +8,14 @@ use Rattle.rules.specs.Sending.{fresh}
 use Rattle.rules.specs.Receiving.{up_to, other_than, consume, deliver, drain}
 use Rattle.rules.specs.Sound.{at_most}
 use Rattle.rules.specs.declared.Refusal.{Refusal}
-use Rattle.events.specs.Written.{Books, books, final, ends}
+use Rattle.events.specs.Written.{Books, books, final, ends, stopped_by, reached}
 use Rattle.numbers.specs.declared.Numbers.{Numbers}
 use Rattle.numbers.specs.Seats.{in_use, ExactNumbers}
 use Rattle.queue.specs.declared.Queue.{Queue}
 use Rattle.queue.specs.View.{frames_of, ExactQueue}
 use Rattle.delivery.specs.declared.Turn.{Turn}
 use Rattle.delivery.specs.declared.Step.{Step}
+use Rattle.delivery.specs.declared.Frame as Lent
 use Rattle.delivery.specs.declared.Drained.{Drained}
 
 -- ---- what does not change while a call delivers: the state as it began
@@ -72,6 +73,18 @@ pub record Under (s : R.State) (t : Turn) : Type 0 where
 abbrev pub frame_of : ℕ → ℕ → Bytes → R.Frame
 frame_of n k b = record { number = n; kind = k; body = b }
 
+-- a message whose body lies in a lent buffer
+abbrev pub lent_frame : Lent.Frame → R.Frame
+lent_frame f = frame_of f.number f.kind f.body.now
+
+-- a turn with n events and at delivery bytes so far
+abbrev pub step_at : Turn → ℕ → ℕ → Step
+step_at t n at = record { turn = t; events = n; at = at }
+
+-- where a step from turn t and books b ends: one that was refused changed nothing
+abbrev pub ended_at : Turn → Books → Result Step Refusal → Step
+ended_at t b r = reached (step_at t b.n b.at) r
+
 -- room for a delivery: two events and the body, and two raises of the generation
 pub record Ready (t : Turn) (len listed n delivery at : ℕ) : Type 0 where
   pub slow : t.clock.generation + 2 ≤ 4294967295
@@ -79,14 +92,15 @@ pub record Ready (t : Turn) (len listed n delivery at : ℕ) : Type 0 where
   pub bytes : at + len ≤ delivery
 
 -- what a mode does with a message
-pub record Consumed (f : R.Frame) (t : Turn) (b : Books) (r : Step) (l' : List ℕ) (d' : Bytes) : Type 0 where
+pub record Consumed (f : R.Frame) (t : Turn) (b : Books) (r : Result Step Refusal) (l' : List ℕ) (d' : Bytes) : Type 0 where
   pub does : (s : R.State) (fs : List R.Frame) (ws : List ℕ) (us : List R.Unacked) → Under s t
-      → final us (consume s.stage.mode f (during s fs ws t)) b ≡ ends r.stop (during s fs ws r.turn) (books l' r.events d' r.at)
-  pub under : (s : R.State) → Under s t → Under s r.turn
-  pub remote : r.turn.remote ≡ t.remote
-  pub slow : r.turn.clock.generation ≤ t.clock.generation + 1
-  pub few : r.events ≤ b.n + 1
-  pub short : r.at ≤ b.at + length f.body
+      → final us (consume s.stage.mode f (during s fs ws t)) b
+      ≡ ends (stopped_by r) (during s fs ws (ended_at t b r).turn) (books l' (ended_at t b r).events d' (ended_at t b r).at)
+  pub under : (s : R.State) → Under s t → Under s (ended_at t b r).turn
+  pub remote : (ended_at t b r).turn.remote ≡ t.remote
+  pub slow : (ended_at t b r).turn.clock.generation ≤ t.clock.generation + 1
+  pub few : (ended_at t b r).events ≤ b.n + 1
+  pub short : (ended_at t b r).at ≤ b.at + length f.body
 
 -- what a delivery leaves of the queue and of the acks that wait: one that was refused took nothing and added none
 abbrev pub left_by : Option Refusal → ℕ → List R.Frame → List R.Frame
@@ -97,15 +111,16 @@ abbrev pub acked_by : Option Refusal → ℕ → List ℕ → List ℕ
 acked_by None n ws = put itself n ws
 acked_by (Some r) n ws = ws
 
-pub record Delivered (f : R.Frame) (t : Turn) (b : Books) (r : Step) (l' : List ℕ) (d' : Bytes) : Type 0 where
+pub record Delivered (f : R.Frame) (t : Turn) (b : Books) (r : Result Step Refusal) (l' : List ℕ) (d' : Bytes) : Type 0 where
   pub does : (s : R.State) (fs : List R.Frame) (ws : List ℕ) (us : List R.Unacked) → Under s t
       → final us (deliver f (during s fs ws t)) b
-      ≡ ends r.stop (during s (left_by r.stop f.number fs) (acked_by r.stop f.number ws) r.turn) (books l' r.events d' r.at)
-  pub under : (s : R.State) → Under s t → Under s r.turn
-  pub remote : r.stop ≡ None → r.turn.remote ≡ f.number
-  pub slow : r.turn.clock.generation ≤ t.clock.generation + 2
-  pub few : r.events ≤ b.n + 2
-  pub short : r.at ≤ b.at + length f.body
+      ≡ ends (stopped_by r) (during s (left_by (stopped_by r) f.number fs) (acked_by (stopped_by r) f.number ws) (ended_at t b r).turn)
+      (books l' (ended_at t b r).events d' (ended_at t b r).at)
+  pub under : (s : R.State) → Under s t → Under s (ended_at t b r).turn
+  pub remote : stopped_by r ≡ None → (ended_at t b r).turn.remote ≡ f.number
+  pub slow : (ended_at t b r).turn.clock.generation ≤ t.clock.generation + 2
+  pub few : (ended_at t b r).events ≤ b.n + 2
+  pub short : (ended_at t b r).at ≤ b.at + length f.body
 
 -- ---- the drain, of the frames from index i of a queue on
 
@@ -126,10 +141,10 @@ pub record Draining (t : Turn) (w : Numbers) (x : Queue) (i : ℕ) (q : Bytes) (
 pub record Drains (status : HostStatus) (t : Turn) (w : Numbers) (x : Queue) (i : ℕ) (q : Bytes) (b : Books) (r : Drained) (l' : List ℕ) (d' : Bytes) : Type 0 where
   pub does : (s : R.State) (us : List R.Unacked) → Under s t
       → final us (drain status (during s (drop i (frames_of x q)) (in_use w) t)) b
-      ≡ ends r.stop (during s (drop r.taken (frames_of x q)) (in_use r.waiting) r.turn) (books l' r.events d' r.at)
-  pub under : (s : R.State) → Under s t → Under s r.turn
+      ≡ ends r.stop (during s (drop r.taken (frames_of x q)) (in_use r.waiting) r.step.turn) (books l' r.step.events d' r.step.at)
+  pub under : (s : R.State) → Under s t → Under s r.step.turn
   pub waits : ExactNumbers r.waiting
   pub within : r.taken ≤ x.count
-  pub slow : r.turn.clock.generation ≤ t.clock.generation + 2 * (x.count - i)
-  pub few : r.events ≤ b.n + 2 * (x.count - i)
-  pub short : r.at ≤ b.at + total frame_size (drop i (frames_of x q))
+  pub slow : r.step.turn.clock.generation ≤ t.clock.generation + 2 * (x.count - i)
+  pub few : r.step.events ≤ b.n + 2 * (x.count - i)
+  pub short : r.step.at ≤ b.at + total frame_size (drop i (frames_of x q))

@@ -2,15 +2,15 @@
 // `reject_inbound`, `delivered` of the state).
 #![tactic(auto)]
 
-ghost use Rattle.std.specs.Prelude.{◌≡◌, ◌+◌, ◌*◌, ◌≤◌, length, take, drop};
+ghost use Rattle.std.specs.Prelude.{◌≡◌, ◌+◌, ◌*◌, ◌≤◌, length};
 ghost use Rattle.rules.specs.declared.ReceiveMode.TheVariants.{Proposal, Rejection};
-ghost use Rattle.events.specs.Written.{books};
-ghost use Rattle.queue.specs.View.{frame};
-ghost use Rattle.delivery.specs.Turns.{frame_of, Ready, Consumed, Delivered, Draining, Drains};
+ghost use Rattle.rules.specs.Lists.{Bytes};
+ghost use Rattle.events.specs.Written.{Listed, asked, books};
+ghost use Rattle.delivery.specs.Turns.{lent_frame, step_at, Ready, Consumed, Delivered, Draining, Drains};
 ghost use Rattle.delivery.specs.Acts.{HandedOver, Proposes, Rejects, Did, rejected, taken, answered, ReadyIn, Available, Deliverable, drained_by};
 
 use numbers::Numbers;
-use queue::{Queue, Queued};
+use queue::Queue;
 use rules::{Clock, HostStatus, ReceiveMode, Refusal};
 
 // What deliveries change, while a call is under way: numbers only, so that a drain moves no array. The outbox and the stores follow once, at the call's
@@ -31,78 +31,82 @@ pub struct Turn {
     pub dropped: bool,
 }
 
-// A turn, and the refusal that ended it.
-#[derive(Clone, Copy)]
-pub struct Proposed {
-    pub turn: Turn,
-    pub stop: Option<Refusal>,
-}
-
-// A turn with the count of events, the first free byte of the delivery buffer, and the refusal that ended it.
+// A turn with the count of events and the first free byte of the delivery buffer.
 #[derive(Clone, Copy)]
 pub struct Step {
     pub turn: Turn,
     pub events: usize,
     pub at: usize,
-    pub stop: Option<Refusal>,
 }
 
-// A step at the end of a drain, with the acks that wait and how many frames were taken from the front of the queue.
+// A message, whose body lies in a lent buffer.
+#[derive(Clone, Copy)]
+pub struct Frame<'a> {
+    pub number: u64,
+    pub kind: u8,
+    pub body: &'a [u8],
+}
+
+// The step that a drain ended at, with the acks that wait, how many frames were taken from the front of the queue, and the refusal that ended it.
 #[derive(Clone, Copy)]
 pub struct Drained {
-    pub turn: Turn,
+    pub step: Step,
     pub waiting: Numbers,
     pub taken: usize,
-    pub events: usize,
-    pub at: usize,
     pub stop: Option<Refusal>,
 }
 
 // ---- what a message does
 
 // Code 2, with the body after what the delivery buffer has.
-fn hand_over(list: &mut [u64], n: usize, delivery: &mut [u8], at: usize, number: u64, body: &[u8])
-    requires { (4 * n + 4 ≤ length list.old) × (at + length body.now ≤ length delivery.old) }
-    ensures { HandedOver number body.now list.old n delivery.old at list.new delivery.new }
+fn hand_over(s: Step, list: &mut [u64], delivery: &mut [u8], f: Frame) -> Step
+    requires { (4 * s.events + 4 ≤ length list.old) × (s.at + length f.body.now ≤ length delivery.old) }
+    ensures written { HandedOver f.entry.number f.entry.body.now list.old s.events delivery.old s.at list.new delivery.new }
+    ensures step { result ≡ step_at s.turn (s.events + 1) (s.at + length f.entry.body.now) }
 {
-    stores::copy_in(delivery, at, body);
-    events::emit(list, n, 2, number, at as u64, body.len() as u64);
+    let len = f.body.len();
+    stores::copy_in(delivery, s.at, f.body);
+    events::emit(list, s.events, 2, f.number, s.at as u64, len as u64);
+    Step {
+        turn: s.turn,
+        events: s.events + 1,
+        at: s.at + len,
+    }
+}
+
+// Code 1, where a commit is due.
+fn request(s: Step, list: &mut [u64]) -> Step
+    requires { 4 * s.events + 4 ≤ length list.old }
+    ensures listed { Listed (asked s.turn.clock) list.old s.events list.new result.events }
+    ensures step { result ≡ step_at s.turn result.events s.at }
+{
+    Step {
+        turn: s.turn,
+        events: events::request(s.turn.clock, list, s.events),
+        at: s.at,
+    }
 }
 
 // `proposal_received`: a rejection that was acknowledged is sent anew, and one under way stands.
-fn receive_proposal(t: Turn) -> Proposed
+fn receive_proposal(t: Turn) -> Result<Turn, Refusal>
     requires { t.clock.generation + 1 ≤ 4294967295 }
     ensures { Proposes t result }
 {
     let mut r = t;
     if t.disposition != 4 {
         r.disposition = 2;
-        return Proposed {
-            turn: r,
-            stop: None,
-        };
+        return Ok(r);
     }
     if t.unacked {
-        return Proposed {
-            turn: t,
-            stop: None,
-        };
+        return Ok(t);
     }
     if rules::LAST_MESSAGE < t.next {
-        return Proposed {
-            turn: t,
-            stop: Some(Refusal::NumbersExhausted),
-        };
+        return Err(Refusal::NumbersExhausted);
     }
-    let mut c = t.clock;
-    c.generation += 1;
-    r.clock = c;
+    r.clock.generation += 1;
     r.unacked = true;
     r.sent = true;
-    Proposed {
-        turn: r,
-        stop: None,
-    }
+    Ok(r)
 }
 
 // Everything unacked is dropped.
@@ -115,226 +119,89 @@ fn reject_inbound(t: Turn) -> Turn
     if !t.unacked {
         return r;
     }
-    let mut c = t.clock;
-    c.generation += 1;
-    r.clock = c;
+    r.clock.generation += 1;
     r.unacked = false;
     r.dropped = true;
     r
 }
 
-// ---- what a mode does with a message
+// ---- what a mode does with a message: a refusal leaves the step as it was, and nothing is written
 
-fn take_reject(t: Turn, list: &mut [u64], n: usize, delivery: &mut [u8], at: usize) -> Step
-    requires { Ready t 0 (length list.old) n (length delivery.old) at }
-    ensures { Did rejected 0 t (books list.old n delivery.old at) result list.new delivery.new }
+fn take_reject(s: Step, list: &mut [u64]) -> Step
+    requires { Ready s.turn 0 (length list.old) s.events 0 0 }
+    ensures { (d : Bytes) → Did rejected 0 s.turn (books list.old s.events d s.at) (Ok result) list.new d }
 {
-    let r = reject_inbound(t);
-    let c = r.clock;
-    let m = events::request(c, list, n);
-    Step {
-        turn: r,
-        events: m,
-        at: at,
-        stop: None,
-    }
+    let turn = reject_inbound(s.turn);
+    request(Step { turn, ..s }, list)
 }
 
-fn take_proposal(
-    t: Turn,
-    list: &mut [u64],
-    n: usize,
-    delivery: &mut [u8],
-    at: usize,
-    number: u64,
-    kind: u8,
-    body: &[u8],
-) -> Step
-    requires { Ready t (length body.now) (length list.old) n (length delivery.old) at }
-    ensures { Did (taken (frame_of number kind body.now)) (length body.now) t (books list.old n delivery.old at) result list.new delivery.new }
+fn take_proposal(s: Step, list: &mut [u64], delivery: &mut [u8], f: Frame) -> Result<Step, Refusal>
+    requires { Ready s.turn (length f.body.now) (length list.old) s.events (length delivery.old) s.at }
+    ensures { Did (taken (lent_frame f.entry)) (length f.entry.body.now) s.turn (books list.old s.events delivery.old s.at) result list.new delivery.new }
 {
-    let a = receive_proposal(t);
-    let r = a.turn;
-    let stop = a.stop;
-    match stop {
-        None => {
-            hand_over(list, n, delivery, at, number, body);
-            Step {
-                turn: r,
-                events: n + 1,
-                at: at + body.len(),
-                stop: None,
-            }
-        }
-        Some(x) => Step {
-            turn: r,
-            events: n,
-            at: at,
-            stop: Some(x),
-        },
-    }
+    let turn = receive_proposal(s.turn)?;
+    Ok(hand_over(Step { turn, ..s }, list, delivery, f))
 }
 
-fn answer_proposal(t: Turn, list: &mut [u64], n: usize, delivery: &mut [u8], at: usize) -> Step
-    requires { Ready t 0 (length list.old) n (length delivery.old) at }
-    ensures { Did answered 0 t (books list.old n delivery.old at) result list.new delivery.new }
+fn answer_proposal(s: Step, list: &mut [u64]) -> Result<Step, Refusal>
+    requires { Ready s.turn 0 (length list.old) s.events 0 0 }
+    ensures { (d : Bytes) → Did answered 0 s.turn (books list.old s.events d s.at) result list.new d }
 {
-    let a = receive_proposal(t);
-    let r = a.turn;
-    let stop = a.stop;
-    match stop {
-        None => {
-            let c = r.clock;
-            let m = events::request(c, list, n);
-            Step {
-                turn: r,
-                events: m,
-                at: at,
-                stop: None,
-            }
-        }
-        Some(x) => Step {
-            turn: r,
-            events: n,
-            at: at,
-            stop: Some(x),
-        },
-    }
+    let turn = receive_proposal(s.turn)?;
+    Ok(request(Step { turn, ..s }, list))
 }
 
 // Proposal mode: a reject, the first proposal, and nothing else.
 fn consume_proposal(
-    t: Turn,
+    s: Step,
     list: &mut [u64],
-    n: usize,
     delivery: &mut [u8],
-    at: usize,
-    number: u64,
-    kind: u8,
-    body: &[u8],
-) -> Step
-    requires { ReadyIn Proposal t (length body.now) (length list.old) n (length delivery.old) at }
-    ensures { Consumed (frame_of number kind body.now) t (books list.old n delivery.old at) result list.new delivery.new }
+    f: Frame,
+) -> Result<Step, Refusal>
+    requires { ReadyIn Proposal s.turn (length f.body.now) (length list.old) s.events (length delivery.old) s.at }
+    ensures { Consumed (lent_frame f.entry) s.turn (books list.old s.events delivery.old s.at) result list.new delivery.new }
 {
-    if kind == 2 {
-        return take_reject(t, list, n, delivery, at);
+    if f.kind == 2 {
+        return Ok(take_reject(s, list));
     }
-    if number == 1 {
-        if kind == 1 {
-            return take_proposal(t, list, n, delivery, at, number, kind, body);
-        }
+    if f.number == 1 && f.kind == 1 {
+        return take_proposal(s, list, delivery, f);
     }
-    Step {
-        turn: t,
-        events: n,
-        at: at,
-        stop: Some(Refusal::NotAProposal),
-    }
+    Err(Refusal::NotAProposal)
 }
 
 // Rejection mode: the first proposal is answered, and nothing is handed over.
-fn consume_rejection(
-    t: Turn,
-    list: &mut [u64],
-    n: usize,
-    delivery: &mut [u8],
-    at: usize,
-    number: u64,
-    kind: u8,
-    body: &[u8],
-) -> Step
-    requires { ReadyIn Rejection t (length body.now) (length list.old) n (length delivery.old) at }
-    ensures { Consumed (frame_of number kind body.now) t (books list.old n delivery.old at) result list.new delivery.new }
+fn consume_rejection(s: Step, list: &mut [u64], f: Frame) -> Result<Step, Refusal>
+    requires { ReadyIn Rejection s.turn 0 (length list.old) s.events 0 0 }
+    ensures { (d : Bytes) → Consumed (lent_frame f.entry) s.turn (books list.old s.events d s.at) result list.new d }
 {
-    if number == 1 {
-        if kind == 1 {
-            return answer_proposal(t, list, n, delivery, at);
-        }
+    if f.number == 1 && f.kind == 1 {
+        return answer_proposal(s, list);
     }
-    Step {
-        turn: t,
-        events: n,
-        at: at,
-        stop: None,
-    }
+    Ok(s)
 }
 
-fn consume(
-    t: Turn,
-    list: &mut [u64],
-    n: usize,
-    delivery: &mut [u8],
-    at: usize,
-    number: u64,
-    kind: u8,
-    body: &[u8],
-) -> Step
-    requires { Ready t (length body.now) (length list.old) n (length delivery.old) at }
-    ensures { Consumed (frame_of number kind body.now) t (books list.old n delivery.old at) result list.new delivery.new }
+fn consume(s: Step, list: &mut [u64], delivery: &mut [u8], f: Frame) -> Result<Step, Refusal>
+    requires { Ready s.turn (length f.body.now) (length list.old) s.events (length delivery.old) s.at }
+    ensures { Consumed (lent_frame f.entry) s.turn (books list.old s.events delivery.old s.at) result list.new delivery.new }
 {
-    let idle = Step {
-        turn: t,
-        events: n,
-        at: at,
-        stop: None,
-    };
-    let mode = t.mode;
-    match mode {
-        ReceiveMode::Raw => {
-            hand_over(list, n, delivery, at, number, body);
-            Step {
-                turn: t,
-                events: n + 1,
-                at: at + body.len(),
-                stop: None,
-            }
-        }
-        ReceiveMode::Proposal => consume_proposal(t, list, n, delivery, at, number, kind, body),
-        ReceiveMode::Rejection => consume_rejection(t, list, n, delivery, at, number, kind, body),
-        ReceiveMode::Channel => idle,
-        ReceiveMode::Retiring => idle,
+    match s.turn.mode {
+        ReceiveMode::Raw => Ok(hand_over(s, list, delivery, f)),
+        ReceiveMode::Proposal => consume_proposal(s, list, delivery, f),
+        ReceiveMode::Rejection => consume_rejection(s, list, f),
+        ReceiveMode::Channel | ReceiveMode::Retiring => Ok(s),
     }
 }
 
 // The message is consumed, remote moves on, and a commit is requested.
-pub fn deliver(
-    t: Turn,
-    list: &mut [u64],
-    n: usize,
-    delivery: &mut [u8],
-    at: usize,
-    number: u64,
-    kind: u8,
-    body: &[u8],
-) -> Step
-    requires { Ready t (length body.now) (length list.old) n (length delivery.old) at }
-    ensures { Delivered (frame_of number kind body.now) t (books list.old n delivery.old at) result list.new delivery.new }
+pub fn deliver(s: Step, list: &mut [u64], delivery: &mut [u8], f: Frame) -> Result<Step, Refusal>
+    requires { Ready s.turn (length f.body.now) (length list.old) s.events (length delivery.old) s.at }
+    ensures { Delivered (lent_frame f.entry) s.turn (books list.old s.events delivery.old s.at) result list.new delivery.new }
 {
-    let a = consume(t, list, n, delivery, at, number, kind, body);
-    let mut r = a.turn;
-    let m = a.events;
-    let stop = a.stop;
-    match stop {
-        None => {
-            let mut c = r.clock;
-            c.generation += 1;
-            r.clock = c;
-            r.remote = number;
-            let k = events::request(c, list, m);
-            Step {
-                turn: r,
-                events: k,
-                at: a.at,
-                stop: None,
-            }
-        }
-        Some(x) => Step {
-            turn: r,
-            events: m,
-            at: a.at,
-            stop: Some(x),
-        },
-    }
+    let mut r = consume(s, list, delivery, f)?;
+    r.turn.clock.generation += 1;
+    r.turn.remote = f.number;
+    Ok(request(r, list))
 }
 
 // ---- the drain
@@ -346,18 +213,10 @@ pub fn available(t: Turn, status: HostStatus) -> bool
     if !status.available {
         return false;
     }
-    let mode = t.mode;
-    match mode {
-        ReceiveMode::Raw => true,
-        ReceiveMode::Proposal => {
-            if t.failed {
-                return false;
-            }
-            t.disposition != 3
-        }
+    match t.mode {
+        ReceiveMode::Raw | ReceiveMode::Rejection | ReceiveMode::Retiring => true,
+        ReceiveMode::Proposal => !(t.failed || t.disposition == 3),
         ReceiveMode::Channel => false,
-        ReceiveMode::Rejection => true,
-        ReceiveMode::Retiring => true,
     }
 }
 
@@ -365,115 +224,65 @@ pub fn available(t: Turn, status: HostStatus) -> bool
 pub fn deliverable(t: Turn, number: u64, kind: u8) -> bool
     ensures { Deliverable number kind t result }
 {
-    let mode = t.mode;
-    match mode {
-        ReceiveMode::Raw => true,
-        ReceiveMode::Proposal => {
-            if number == 1 {
-                return true;
-            }
-            kind == 2
-        }
-        ReceiveMode::Channel => true,
-        ReceiveMode::Rejection => true,
-        ReceiveMode::Retiring => true,
-    }
-}
-
-// The len bytes of a store from index start on.
-fn part(store: &[u8], start: usize, len: usize) -> &[u8]
-    requires { start + len ≤ length store.now }
-    ensures { result.now ≡ take len (drop start store.now) }
-{
-    let end = start + len;
-    &store[start..end]
-}
-
-// A queued message, whose body starts at index start of the store, is delivered.
-fn deliver_queued(
-    s: Step,
-    list: &mut [u64],
-    delivery: &mut [u8],
-    u: Queued,
-    store: &[u8],
-    start: usize,
-) -> Step
-    requires { (start + u.len ≤ length store.now) × Ready s.turn u.len (length list.old) s.events (length delivery.old) s.at }
-    ensures { Delivered (frame u (take u.len (drop start store.now))) s.turn (books list.old s.events delivery.old s.at) result list.new delivery.new }
-{
-    let len = u.len as usize;
-    let body = part(store, start, len);
-    let t = s.turn;
-    deliver(t, list, s.events, delivery, s.at, u.number, u.kind, body)
-}
-
-// The loop is left, at the frame that is not taken.
-fn leave(s: Step, waiting: Numbers, taken: usize, stop: Option<Refusal>) -> Drained
-    ensures { result ≡ drained_by s.turn waiting taken s.events s.at stop }
-{
-    let turn = s.turn;
-    Drained {
-        turn: turn,
-        waiting: waiting,
-        taken: taken,
-        events: s.events,
-        at: s.at,
-        stop: stop,
-    }
+    !matches!(t.mode, ReceiveMode::Proposal) || number == 1 || kind == 2
 }
 
 // From frame `from` of the queue on, for as long as the host is available and the next message is there and deliverable. Its ack has the highest
 // number of those that wait.
 pub fn drain(
-    t: Turn,
+    s: Step,
     w: Numbers,
     q: Queue,
     from: usize,
     store: &[u8],
     status: HostStatus,
     list: &mut [u64],
-    n: usize,
     delivery: &mut [u8],
-    at: usize,
 ) -> Drained
-    requires { Draining t w q from store.now (books list.old n delivery.old at) }
-    ensures { Drains status t w q from store.now (books list.old n delivery.old at) result list.new delivery.new }
+    requires { Draining s.turn w q from store.now (books list.old s.events delivery.old s.at) }
+    ensures { Drains status s.turn w q from store.now (books list.old s.events delivery.old s.at) result list.new delivery.new }
 {
-    let mut s = Step {
-        turn: t,
-        events: n,
-        at: at,
-        stop: None,
-    };
-    let mut acks = w;
-    let mut i = from;
+    let mut step = s;
+    let mut waiting = w;
     let mut start = queue::start(q, from);
-    let count = q.count;
-    'drain: while i < count {
-        let turn = s.turn;
-        if !available(turn, status) {
-            break 'drain;
-        }
+    for i in from..q.count {
         let u = q.records[i];
-        let number = u.number;
-        if number != turn.remote + 1 {
-            break 'drain;
+        if !available(step.turn, status)
+            || u.number != step.turn.remote + 1
+            || !deliverable(step.turn, u.number, u.kind)
+        {
+            return Drained {
+                step,
+                waiting,
+                taken: i,
+                stop: None,
+            };
         }
-        if !deliverable(turn, number, u.kind) {
-            break 'drain;
-        }
-        s = deliver_queued(s, list, delivery, u, store, start);
-        let stop = s.stop;
-        match stop {
-            None => {
-                let k = acks.count;
-                acks.values[k] = number;
-                acks.count = k + 1;
-                start += u.len as usize;
-                i += 1;
+        let len = u.len as usize;
+        let f = Frame {
+            number: u.number,
+            kind: u.kind,
+            body: stores::part(store, start, len),
+        };
+        match deliver(step, list, delivery, f) {
+            Ok(next) => step = next,
+            Err(x) => {
+                return Drained {
+                    step,
+                    waiting,
+                    taken: i,
+                    stop: Some(x),
+                };
             }
-            Some(x) => return leave(s, acks, i, Some(x)),
         }
+        waiting.values[waiting.count] = u.number;
+        waiting.count += 1;
+        start += len;
     }
-    leave(s, acks, i, None)
+    Drained {
+        step,
+        waiting,
+        taken: q.count,
+        stop: None,
+    }
 }

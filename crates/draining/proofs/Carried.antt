@@ -119,48 +119,48 @@ module _ {t : Turn} {w : Numbers} {from : ℕ} {s : SessionState} {l : List ℕ}
 
   module _ {status : HostStatus} {r : Drained} {l₁ : List ℕ} {d₁ : Bytes} (h : Drains status t w s.queue from q (books l n d at) r l₁ d₁) where
     abbrev there : State
-    there = during (state_of s o q) (drop r.taken (frames_of s.queue q)) (in_use r.waiting) r.turn
+    there = during (state_of s o q) (drop r.taken (frames_of s.queue q)) (in_use r.waiting) r.step.turn
 
-    came : (us : List R.Unacked) → final us (drain status here) (books l n d at) ≡ ends r.stop there (books l₁ r.events d₁ r.at)
+    came : (us : List R.Unacked) → final us (drain status here) (books l n d at) ≡ ends r.stop there (books l₁ r.step.events d₁ r.step.at)
     came us = h.does (state_of s o q) us pre.under
 
-    settled : Settling r.turn s.reject s.outbox (length o)
+    settled : Settling r.step.turn s.reject s.outbox (length o)
     settled =
-        settling s o q r.turn (drop r.taken (frames_of s.queue q)) (in_use r.waiting) pre.exact (h.under (state_of s o q) pre.under)
-        (leaves-final [] Sound (drain status here) (books l n d at) (books l₁ r.events d₁ r.at) r.stop there
+        settling s o q r.step.turn (drop r.taken (frames_of s.queue q)) (in_use r.waiting) pre.exact (h.under (state_of s o q) pre.under)
+        (leaves-final [] Sound (drain status here) (books l n d at) (books l₁ r.step.events d₁ r.step.at) r.stop there
         (drains-sound (length here.inbox.queue) status here good) (came []))
 
-    pub finishing : Finishing r.turn r.taken s (length o) (length q)
+    pub finishing : Finishing r.step.turn r.taken s (length o) (length q)
     finishing = record { settling = settled; within = h.within; exact = pre.exact.queued }
 
-    pub abandoning : length l₁ ≡ length l → Abandoning r.turn r.waiting s r.events (length l₁) (length o) (length q)
+    pub abandoning : length l₁ ≡ length l → Abandoning r.step.turn r.waiting s r.step.events (length l₁) (length o) (length q)
     abandoning e =
         let few : s.queue.count ≤ 256 = pre.exact.queued.few in
         record { settling = settled; exact = pre.exact; waits = h.waits; room = omega (arith, h.few, pre.few, pre.listed) }
 
     went : (us : List R.Unacked) (p : Progress) (b : Books) → Within b → final us p b ≡ ends None here (books l n d at)
-        → final us (p then drain status) b ≡ ends r.stop there (books l₁ r.events d₁ r.at)
+        → final us (p then drain status) b ≡ ends r.stop there (books l₁ r.step.events d₁ r.step.at)
     went us p b k e = then_goes us p (drain status) b (books l n d at) here k e ∙ came us
 
-    pub carries-on : r.stop ≡ None → {r₂ : SessionState} {o' q' : Bytes} → Finishes r.turn r.waiting r.taken s o q r₂ o' q'
-        → Carries status t w from s l n d at o q (record { session = r₂; events = r.events; stop = None }) l₁ d₁ o' q'
+    pub carries-on : r.stop ≡ None → {r₂ : SessionState} {o' q' : Bytes} → Finishes r.step.turn r.waiting r.taken s o q r₂ o' q'
+        → Carries status t w from s l n d at o q (record { session = r₂; events = r.step.events; stop = None }) l₁ d₁ o' q'
     carries-on z {r₂} {o'} {q'} f =
         record {
-          end = r.at;
+          end = r.step.at;
           does = λ us p b k e.
-              failing-goes us (p then drain status) b (books l₁ r.events d₁ r.at) there
-              (went us p b k e ∙ ap (λ (y : Option Refusal). ends y there (books l₁ r.events d₁ r.at)) z)
-              ∙ ap (λ (x : State). ends None x (books l₁ r.events d₁ r.at)) (sym (finishes_view f));
+              failing-goes us (p then drain status) b (books l₁ r.step.events d₁ r.step.at) there
+              (went us p b k e ∙ ap (λ (y : Option Refusal). ends y there (books l₁ r.step.events d₁ r.step.at)) z)
+              ∙ ap (λ (x : State). ends None x (books l₁ r.step.events d₁ r.step.at)) (sym (finishes_view f));
           stores = finishes_stores f pre.exact h.waits;
         }
 
-    pub carries_not : (x : Refusal) → r.stop ≡ Some x → {e : Ended} {l' : List ℕ} {o' q' : Bytes} → Abandons x r.turn r.waiting s l₁ r.events o q e l' o' q'
+    pub carries_not : (x : Refusal) → r.stop ≡ Some x → {e : Ended} {l' : List ℕ} {o' q' : Bytes} → Abandons x r.step.turn r.waiting s l₁ r.step.events o q e l' o' q'
         → Carries status t w from s l n d at o q e l' d₁ o' q'
     carries_not x z a =
         record {
-          end = r.at;
+          end = r.step.at;
           does = λ us p b k e.
-              a.does us (p then drain status) b (drop r.taken (frames_of s.queue q)) d₁ r.at k
-              (went us p b k e ∙ ap (λ (y : Option Refusal). ends y there (books l₁ r.events d₁ r.at)) z);
+              a.does us (p then drain status) b (drop r.taken (frames_of s.queue q)) d₁ r.step.at k
+              (went us p b k e ∙ ap (λ (y : Option Refusal). ends y there (books l₁ r.step.events d₁ r.step.at)) z);
           stores = a.stores;
         }

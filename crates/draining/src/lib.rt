@@ -8,7 +8,7 @@ ghost use Rattle.peer_session.specs.View.{reject_of};
 ghost use Rattle.draining.specs.Turns.{turn_of, Settling, Settles, Advances, Finishing, Finishes};
 ghost use Rattle.draining.specs.Ends.{Fails, Abandoning, Abandons, Carrying, Carries};
 
-use delivery::Turn;
+use delivery::{Step, Turn};
 use numbers::Numbers;
 use outbox::Outbox;
 use peer_session::{RejectBody, SessionState};
@@ -27,15 +27,12 @@ pub struct Ended {
 pub fn turn_of(s: SessionState) -> Turn
     ensures { result ≡ turn_of s }
 {
-    let g = s.stage;
-    let mode = g.mode;
-    let clock = s.clock;
     Turn {
-        mode: mode,
-        failed: g.failed,
+        mode: s.stage.mode,
+        failed: s.stage.failed,
         remote: s.remote,
-        clock: clock,
-        disposition: g.disposition,
+        clock: s.clock,
+        disposition: s.stage.disposition,
         next: s.outbox.next,
         unacked: 0 < s.outbox.count,
         sent: false,
@@ -62,8 +59,7 @@ fn settle(o: Outbox, outbound: &mut [u8], t: Turn, j: RejectBody) -> Outbox
             r.next = o.next + 1;
             return r;
         }
-        let body = j.bytes;
-        return send_reject(o, outbound, &body, j.len);
+        return send_reject(o, outbound, &j.bytes, j.len);
     }
     if t.dropped {
         return outbox::discard(o, outbound);
@@ -76,17 +72,12 @@ fn advance(s: SessionState, outbound: &mut [u8], t: Turn, w: Numbers) -> Session
     requires { Settling t s.reject s.outbox (length outbound.old) }
     ensures { Advances t w s outbound.old result outbound.new }
 {
-    let o = s.outbox;
-    let j = s.reject;
-    let settled = settle(o, outbound, t, j);
-    let clock = t.clock;
-    let disposition = t.disposition;
     let mut r = s;
-    r.outbox = settled;
+    r.outbox = settle(s.outbox, outbound, t, s.reject);
     r.remote = t.remote;
     r.waiting = w;
-    r.clock = clock;
-    r.stage.disposition = disposition;
+    r.clock = t.clock;
+    r.stage.disposition = t.disposition;
     r
 }
 
@@ -102,8 +93,7 @@ fn finish(
     requires { Finishing t taken s (length outbound.old) (length queue.old) }
     ensures { Finishes t w taken s outbound.old queue.old result outbound.new queue.new }
 {
-    let q = s.queue;
-    let left = queue::drop_front(q, queue, taken);
+    let left = queue::drop_front(s.queue, queue, taken);
     let mut r = advance(s, outbound, t, w);
     r.queue = left;
     r
@@ -146,37 +136,30 @@ pub fn abandon(
 
 // ---- the drain, and the end of a call
 
-// Drains the queue from index from on, with n events and at delivery bytes so far, and stores what came of it.
+// Drains the queue from index from on, after a step, and stores what came of it.
 pub fn carry(
     s: SessionState,
-    t: Turn,
+    step: Step,
     w: Numbers,
     from: usize,
     status: HostStatus,
     list: &mut [u64],
-    n: usize,
     delivery: &mut [u8],
-    at: usize,
     outbound: &mut [u8],
     queue: &mut [u8],
 ) -> Ended
-    requires { Carrying t w from s list.old n delivery.old at outbound.old queue.old }
-    ensures { Carries status t w from s list.old n delivery.old at outbound.old queue.old result list.new delivery.new outbound.new queue.new }
+    requires { Carrying step.turn w from s list.old step.events delivery.old step.at outbound.old queue.old }
+    ensures { Carries status step.turn w from s list.old step.events delivery.old step.at outbound.old queue.old result list.new delivery.new outbound.new queue.new }
 {
-    let q = s.queue;
-    let d = delivery::drain(t, w, q, from, queue, status, list, n, delivery, at);
-    let turn = d.turn;
-    let waiting = d.waiting;
-    let stop = d.stop;
-    match stop {
-        Some(x) => abandon(s, list, d.events, outbound, queue, turn, waiting, x),
-        None => {
-            let r = finish(s, outbound, queue, turn, waiting, d.taken);
-            Ended {
-                session: r,
-                events: d.events,
-                stop: None,
-            }
-        }
+    let d = delivery::drain(step, w, s.queue, from, queue, status, list, delivery);
+    let turn = d.step.turn;
+    let events = d.step.events;
+    match d.stop {
+        Some(x) => abandon(s, list, events, outbound, queue, turn, d.waiting, x),
+        None => Ended {
+            session: finish(s, outbound, queue, turn, d.waiting, d.taken),
+            events,
+            stop: None,
+        },
     }
 }

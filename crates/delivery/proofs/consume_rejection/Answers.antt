@@ -1,26 +1,18 @@
 use native.Mathlib.Omega.{arith}
 use lib.ListN.{length}
 use Rattle.events.specs.Written.{books}
-use Rattle.delivery.specs.Turns.{frame_of}
-use Rattle.delivery.proofs.Steps.{did_stays, did_consumed, rejection_first, rejection_later, rejection_another}
+use Rattle.delivery.specs.Turns.{lent_frame}
+use Rattle.delivery.proofs.Steps.{did_stays, did_consumed, rejection_first, rejection_another}
 use Rattle.delivery.proofs.consume_rejection.Goals as goal
 
-pub returns-then-kind-eq1 : goal.returns-then-kind-eq1
-returns-then-kind-eq1 c =
-    let x = c.args in
-    let f = frame_of x.number x.kind x.body.now in
-    did_consumed f c.requires.mode (λ st. rejection_first f st c.if-number-eq1.true c.if-kind-eq1.true) (omega arith) c.answer_proposal.ensures
+pub returns-then-f-eq1-2 : goal.returns-then-f-eq1-2
+returns-then-f-eq1-2 c d =
+    let f = lent_frame c.args.f in
+    did_consumed f c.requires.mode (λ st. rejection_first f st c.if-f-eq1.true c.if-f-eq1-2.true) (omega arith) (c.answer_proposal.ensures d)
 
-pub returns-else-kind-eq1 : goal.returns-else-kind-eq1
-returns-else-kind-eq1 c =
-    let x = c.args in
-    let f = frame_of x.number x.kind x.body.now in
-    did_consumed f c.requires.mode (λ st. rejection_another f st c.if-number-eq1.true c.if-kind-eq1.false) (omega arith)
-    (did_stays x.t (books x.list.now x.n x.delivery.now x.at) (length x.body.now))
-
-pub returns-else-number-eq1 : goal.returns-else-number-eq1
-returns-else-number-eq1 c =
-    let x = c.args in
-    let f = frame_of x.number x.kind x.body.now in
-    did_consumed f c.requires.mode (λ st. rejection_later f st c.if-number-eq1.false) (omega arith)
-    (did_stays x.t (books x.list.now x.n x.delivery.now x.at) (length x.body.now))
+pub returns : goal.returns
+returns c d =
+    let s = c.args.s in
+    let f = lent_frame c.args.f in
+    did_consumed f c.requires.mode (λ st. rejection_another f st c.else-f-eq1.either) (omega arith)
+    (did_stays s.turn (books c.args.list.now s.events d s.at) (length f.body))

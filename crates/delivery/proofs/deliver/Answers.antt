@@ -1,18 +1,17 @@
+use Rattle.std.proofs.Common.{◌≡◌, Err, rules}
 use Rattle.events.specs.Written.{books}
-use Rattle.delivery.specs.Turns.{frame_of}
+use Rattle.delivery.specs.Turns.{lent_frame}
 use Rattle.delivery.proofs.Steps.{ready-within, deliver-goes, deliver-stops}
 use Rattle.delivery.proofs.deliver.Goals as goal
 
-pub returns-in-None : goal.returns-in-None
-returns-in-None c =
-    let x = c.args in
-    let f = frame_of x.number x.kind x.body.now in
-    deliver-goes f x.t (books x.list.now x.n x.delivery.now x.at) (ready-within x.list.now x.n x.delivery.now x.at c.requires) c.consume-a.result c.consume-a.new.list c.consume-a.new.delivery c.consume-a.ensures
-    c.in-None.is c.request-k.new.list c.request-k.result c.request-k.ensures
+pub returns-in_err-r : goal.returns-in_err-r
+returns-in_err-r c =
+    let s = c.args.s in
+    let e : c.from_residual.result ≡ Err c.in_err-r.field-0.0 = search rules in
+    rw e (deliver-stops (lent_frame c.args.f) s.turn (books c.args.list.now s.events c.args.delivery.now s.at) _ _ c.in_err-r.ensures)
 
-pub returns-in-Some : goal.returns-in-Some
-returns-in-Some c =
-    let x = c.args in
-    let f = frame_of x.number x.kind x.body.now in
-    deliver-stops f x.t (books x.list.now x.n x.delivery.now x.at) (ready-within x.list.now x.n x.delivery.now x.at c.requires) c.consume-a.result c.consume-a.new.list c.consume-a.new.delivery c.consume-a.ensures
-    c.in-Some.x c.in-Some.is
+pub returns : goal.returns
+returns c =
+    let s = c.args.s in
+    deliver-goes (lent_frame c.args.f) s.turn (books c.args.list.now s.events c.args.delivery.now s.at) _ _ (ready-within c.args.list.now s.events c.args.delivery.now s.at c.requires)
+    c.in_ok-r.r c.in_ok-r.ensures c.request.ensures.listed c.request.ensures.step

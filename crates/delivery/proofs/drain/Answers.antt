@@ -1,48 +1,47 @@
-use mathlib.Core.Path.{◌∙◌}
 use native.Mathlib.Omega.{arith}
-use Rattle.delivery.proofs.Drains.{turns_none, turns_more, ready, reaches, next_small, on-small, drains_as, out_unavailable, out_empty, out_later, out_undeliverable, out_refused}
+use Rattle.delivery.proofs.Drains.{turns_none, turns_more, ready_for, lying, reaches, next_small, on-small, out_unavailable, out_empty, out_later, out_undeliverable, out_refused}
 use Rattle.delivery.proofs.drain.Goals as goal
-use Rattle.delivery.proofs.drain.Goals.{else-drain-test, then-drain-test+then-not-available, then-drain-test+else-not-available+then-number-turn, then-drain-test+else-not-available+else-number-turn+then-not-deliverable}
+use Rattle.delivery.proofs.drain.Goals.{then-not-available-via-then-not-available, then-not-available-via-else-not-available+then-u-step, then-not-available-via-else-not-available+else-u-step+then-not-deliverable}
 
-pub drain-init : goal.drain-init
-drain-init c = turns_none _ _ _ _ _ _ _ _ c.requires c.start-start.ensures
+pub loop-i-init : goal.loop-i-init
+loop-i-init c = turns_none _ _ _ _ _ _ _ _ c.requires c.start-start.ensures
 
-pub overflow_add-turn : goal.overflow_add-turn
-overflow_add-turn c = omega (arith, next_small c.drain.invariant c.drain-test.true)
+pub overflow_add-step : goal.overflow_add-step
+overflow_add-step c = omega (arith, next_small c.loop-i.invariant c.loop-i-test.true)
 
-pub deliver_queued-s-requires : goal.deliver_queued-s-requires
-deliver_queued-s-requires c = (reaches c.drain.invariant c.drain-test.true, ready c.drain.invariant c.drain-test.true)
+pub returns-then-not-available : goal.returns-then-not-available
+returns-then-not-available c =
+    let v = c.loop-i.invariant in
+    let l = c.loop-i-test.true in
+    elim c.then-not-available.branch [
+      | then-not-available-via-then-not-available w ↦ out_unavailable v w.if-not-available.ensures
+      | then-not-available-via-else-not-available+then-u-step w ↦ out_later v l w.if-u-step.true
+      | then-not-available-via-else-not-available+else-u-step+then-not-deliverable w ↦ out_undeliverable v l w.if-u-step.false w.if-not-deliverable.ensures
+    ]
+
+pub part-requires : goal.part-requires
+part-requires c =
+    let r = reaches c.loop-i.invariant c.loop-i-test.true in
+    (omega arith, omega arith)
+
+pub deliver-requires : goal.deliver-requires
+deliver-requires c = ready_for c.loop-i.invariant c.loop-i-test.true c.part.ensures
+
+pub returns-in-Err : goal.returns-in-Err
+returns-in-Err c =
+    let v = c.loop-i.invariant in
+    let l = c.loop-i-test.true in
+    out_refused v l c.if-u-step.false c.if-not-available.ensures c.if-not-deliverable.ensures (lying v l c.part.ensures c.in-Err.ensures)
 
 pub overflow_add-start : goal.overflow_add-start
-overflow_add-start c = omega (arith, on-small c.drain.invariant c.drain-test.true)
+overflow_add-start c = omega (arith, on-small c.loop-i.invariant c.loop-i-test.true)
 
-pub overflow_add-i : goal.overflow_add-i
-overflow_add-i c = omega (arith, c.drain-test.true, c.drain.invariant.pre.exact.few)
-
-pub drain-preserved : goal.drain-preserved
-drain-preserved c =
-    turns_more c.drain.invariant c.drain-test.true c.if-number-turn.false c.available.result c.available.ensures (c.if-not-available.false) c.deliverable.result c.deliverable.ensures (c.if-not-deliverable.false)
-    c.deliver_queued-s.result c.deliver_queued-s.new.list c.deliver_queued-s.new.delivery c.deliver_queued-s.ensures c.in-None.is c.deliver_queued-s.auto.list c.deliver_queued-s.auto.delivery
-
-pub shape_of-list-in-Some : goal.shape_of-list-in-Some
-shape_of-list-in-Some c = c.deliver_queued-s.auto.list ∙ c.drain.invariant.list
-
-pub shape_of-delivery-in-Some : goal.shape_of-delivery-in-Some
-shape_of-delivery-in-Some c = c.deliver_queued-s.auto.delivery ∙ c.drain.invariant.delivery
-
-pub returns-in-Some : goal.returns-in-Some
-returns-in-Some c =
-    drains_as c.leave.ensures
-    (out_refused c.drain.invariant c.drain-test.true c.if-number-turn.false c.available.result c.available.ensures (c.if-not-available.false) c.deliverable.result c.deliverable.ensures (c.if-not-deliverable.false)
-    c.deliver_queued-s.result c.deliver_queued-s.new.list c.deliver_queued-s.new.delivery c.deliver_queued-s.ensures c.in-Some.x c.in-Some.is)
+pub loop-i-preserved : goal.loop-i-preserved
+loop-i-preserved c =
+    let v = c.loop-i.invariant in
+    let l = c.loop-i-test.true in
+    turns_more v l c.if-u-step.false c.if-not-available.ensures c.if-not-deliverable.ensures (lying v l c.part.ensures c.in-Ok.ensures)
+    c.deliver.auto.list c.deliver.auto.delivery
 
 pub returns : goal.returns
-returns c =
-    drains_as c.leave-2.ensures
-    (elim c.drain-test.branch [
-      | else-drain-test w ↦ out_empty c.drain.invariant w.drain-test.false
-      | then-drain-test+then-not-available w ↦ out_unavailable c.drain.invariant w.available.result w.available.ensures w.if-not-available.true
-      | then-drain-test+else-not-available+then-number-turn w ↦ out_later c.drain.invariant w.drain-test.true w.if-number-turn.true
-      | then-drain-test+else-not-available+else-number-turn+then-not-deliverable w ↦
-          out_undeliverable c.drain.invariant w.drain-test.true w.if-number-turn.false w.deliverable.result w.deliverable.ensures w.if-not-deliverable.true
-    ])
+returns c = out_empty c.loop-i.invariant c.loop-i-test.false

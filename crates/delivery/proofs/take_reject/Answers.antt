@@ -1,9 +1,12 @@
+use mathlib.Core.Path.{ap}
 use Rattle.events.specs.Written.{books}
+use Rattle.delivery.specs.declared.Step.{Step}
 use Rattle.delivery.proofs.Steps.{did_request, reject_then}
 use Rattle.delivery.proofs.take_reject.Goals as goal
 
 pub returns : goal.returns
-returns c =
-    let x = c.args in
-    let b = books x.list.now x.n x.delivery.now x.at in
-    reject_then x.t b 0 c.reject_inbound-r.result c.reject_inbound-r.ensures _ _ _ _ (did_request c.reject_inbound-r.result b 0 c.request-m.new.list c.request-m.result c.request-m.ensures)
+returns c d =
+    let s = c.args.s in
+    let b = books c.args.list.now s.events d s.at in
+    let r = c.request.ensures in
+    reject_then s.turn b 0 c.reject_inbound-turn.ensures (ap (λ (y : Step). y.turn) r.step) (did_request c.reject_inbound-turn.result b 0 r.listed r.step)
