@@ -1,70 +1,89 @@
 // The calls of a script, made on its session.
 #![tactic(auto)]
 
-use call_reading::records::{Handoff, Record};
-use call_reading::{Call, Opening};
+use call_reading::records::{Handoff, Numbers, Record};
+use call_reading::{Buffers, Call, Opening};
 use peer_session::SessionState;
 use rules::Refusal;
 use session::Returned;
 use starts::Reliable;
 
-mod parts; // parts of lent slices
+// What calls are lent beside the session: the list for their events, and the stores.
+#[derive(Drop)]
+pub struct Stores {
+    pub list: [u64; 4096],
+    pub delivery: [u8; 49152],
+    pub outbound: [u8; 65536],
+    pub queue: [u8; 32768],
+}
 
-fn reliable(r: Record) -> Reliable {
+fn reliable(n: Numbers) -> Reliable {
     Reliable {
-        message_number: r.message_number,
-        remote_number: r.remote,
-        disposition: r.disposition,
+        message_number: n.message_number,
+        remote_number: n.remote,
+        disposition: n.disposition,
     }
 }
 
-pub fn start(
-    o: Opening,
-    numbers: &[u64; 257],
-    lengths: &[u64; 257],
-    body: &[u8],
-    outbound: &mut [u8; 65536],
-    queue: &mut [u8; 32768],
-) -> Returned {
-    let r = o.record;
+// A part that a slice does not have is empty.
+fn between(s: &[u8], from: usize, to: usize) -> &[u8] {
+    s.get(from..to).unwrap_or(b"")
+}
+
+pub fn start(o: Opening, buffers: &Buffers, stores: &mut Stores) -> Returned {
+    let m = o.record.messages;
     starts::start(
-        reliable(r),
-        parts::first_words(numbers, r.count),
-        parts::first_words(lengths, r.count),
-        parts::between(body, r.from, r.to),
+        reliable(o.record.numbers),
+        text::front(&buffers.numbers, m.count),
+        text::front(&buffers.lengths, m.count),
+        between(&buffers.body, m.from, m.to),
         o.policy,
-        text::front(body, o.reject),
-        outbound,
-        queue,
+        text::front(&buffers.body, o.reject),
+        &mut stores.outbound,
+        &mut stores.queue,
     )
 }
 
-fn restore(
-    s: SessionState,
-    r: Record,
-    h: Handoff,
-    numbers: &[u64; 257],
-    lengths: &[u64; 257],
-    body: &[u8],
-    outbound: &mut [u8; 65536],
-) -> Returned {
+// The handoff, and its body, which comes after those of the messages, up to index to.
+fn given(handoff: Option<Handoff>, body: &[u8], to: usize) -> (restores::Handoff, &[u8]) {
+    let Some(h) = handoff else {
+        let none = restores::Handoff {
+            present: false,
+            id: 0,
+            number: 0,
+            sent: false,
+            acknowledged: false,
+        };
+        return (none, b"");
+    };
     let given = restores::Handoff {
-        present: h.present,
+        present: true,
         id: h.id,
         number: h.number,
         sent: h.sent,
         acknowledged: h.acknowledged,
     };
-    let end = std::num::wrapping_add_usize(r.to, h.len);
+    (given, between(body, to, to.wrapping_add(h.len)))
+}
+
+fn restore(
+    s: SessionState,
+    r: Record,
+    h: Option<Handoff>,
+    buffers: &Buffers,
+    outbound: &mut [u8; 65536],
+) -> Returned {
+    let m = r.messages;
+    let (handoff, body) = given(h, &buffers.body, m.to);
     restores::restore(
         s,
         outbound,
-        reliable(r),
-        parts::first_words(numbers, r.count),
-        parts::first_words(lengths, r.count),
-        parts::between(body, r.from, r.to),
-        given,
-        parts::between(body, r.to, end),
+        reliable(r.numbers),
+        text::front(&buffers.numbers, m.count),
+        text::front(&buffers.lengths, m.count),
+        between(&buffers.body, m.from, m.to),
+        handoff,
+        body,
     )
 }
 
@@ -79,53 +98,43 @@ fn prepare(s: SessionState) -> Returned {
 
 fn keepalive(s: SessionState, list: &mut [u64; 4096]) -> Returned {
     let t = acks::receive_keepalive(s, list);
-    let a = t.answer;
     Returned {
         session: s,
-        answer: a,
+        answer: t.answer,
         events: t.events,
     }
 }
 
-// Calls on the setup and the handoff.
-fn set_up(
-    c: Call,
-    s: SessionState,
-    body: &[u8],
-    list: &mut [u64; 4096],
-    outbound: &mut [u8; 65536],
-    queue: &mut [u8; 32768],
-) -> Returned {
+// Calls on the setup and the handoff. The calls are in three functions, since one would be too long to read.
+fn set_up(c: Call, s: SessionState, buffers: &Buffers, stores: &mut Stores) -> Returned {
+    let body = &buffers.body;
+    let outbound = &mut stores.outbound;
     match c {
         Call::Accept { terms, len } => {
             setup::accept_session(s, outbound, terms, text::front(body, len))
         }
-        Call::Reject => setup::reject_session(s, list, outbound),
+        Call::Reject => setup::reject_session(s, &mut stores.list, outbound),
         Call::PrepareChannel(terms) => setup::prepare_channel(s, terms),
-        Call::Command {
-            restoring,
-            present,
-            id,
-            len,
-        } => {
+        Call::Command { restoring, command } => {
+            let (present, id, len) = match command {
+                Some(c) => (true, c.id, c.len),
+                None => (false, 0, 0),
+            };
             let b = text::front(body, len);
-            handoffs::channel_command(s, list, outbound, restoring, present, id, b)
+            handoffs::channel_command(s, &mut stores.list, outbound, restoring, present, id, b)
         }
-        Call::Retire(retain) => setup::retire(s, outbound, queue, retain),
+        Call::Retire(retain) => setup::retire(s, outbound, &mut stores.queue, retain),
+        Call::Restore { record, handoff } => restore(s, record, handoff, buffers, outbound),
         _ => session::refused(s, Refusal::UnknownCode),
     }
 }
 
 // What a peer sent, and a consumer that is ready for it.
-fn receive(
-    c: Call,
-    s: SessionState,
-    body: &[u8],
-    list: &mut [u64; 4096],
-    delivery: &mut [u8; 49152],
-    outbound: &mut [u8; 65536],
-    queue: &mut [u8; 32768],
-) -> Returned {
+fn receive(c: Call, s: SessionState, buffers: &Buffers, stores: &mut Stores) -> Returned {
+    let list = &mut stores.list;
+    let delivery = &mut stores.delivery;
+    let outbound = &mut stores.outbound;
+    let queue = &mut stores.queue;
     match c {
         Call::Data {
             status,
@@ -133,7 +142,7 @@ fn receive(
             kind,
             len,
         } => {
-            let b = text::front(body, len);
+            let b = text::front(&buffers.body, len);
             receiving::receive_data(s, list, delivery, outbound, queue, status, number, kind, b)
         }
         Call::Ack(n) => acks::receive_ack(s, list, outbound, queue, n),
@@ -141,53 +150,30 @@ fn receive(
         Call::Ready { status, mode } => {
             consumers::consumer_ready(s, list, delivery, outbound, queue, status, mode)
         }
-        _ => set_up(c, s, body, list, outbound, queue),
+        _ => set_up(c, s, buffers, stores),
     }
 }
 
-// What is sent, committed and reported.
-fn send(
-    c: Call,
-    s: SessionState,
-    body: &[u8],
-    list: &mut [u64; 4096],
-    delivery: &mut [u8; 49152],
-    outbound: &mut [u8; 65536],
-    queue: &mut [u8; 32768],
-) -> Returned {
+// Any call; those that send, commit and report are made here.
+pub fn call(c: Call, s: SessionState, buffers: &Buffers, stores: &mut Stores) -> Returned {
+    let list = &mut stores.list;
     match c {
-        Call::Send(n) => sending::send_message(s, list, outbound, text::front(body, n)),
+        Call::Send(n) => {
+            let b = text::front(&buffers.body, n);
+            sending::send_message(s, list, &mut stores.outbound, b)
+        }
         Call::Prepare => prepare(s),
-        Call::Complete { commit, persisted } => commits::complete_commit(
-            s, list, commit, persisted,
-        ),
-        Call::Connectivity { event, time, force } => replays::connectivity(
-            s, list, event, time, force,
-        ),
+        Call::Complete { commit, persisted } => {
+            commits::complete_commit(s, list, commit, persisted)
+        }
+        Call::Connectivity { event, time, force } => {
+            replays::connectivity(s, list, event, time, force)
+        }
         Call::Report {
             what,
             number,
             accepted,
         } => acks::report(s, list, what, number, accepted),
-        _ => receive(c, s, body, list, delivery, outbound, queue),
-    }
-}
-
-pub fn call(
-    c: Call,
-    s: SessionState,
-    numbers: &[u64; 257],
-    lengths: &[u64; 257],
-    body: &[u8],
-    list: &mut [u64; 4096],
-    delivery: &mut [u8; 49152],
-    outbound: &mut [u8; 65536],
-    queue: &mut [u8; 32768],
-) -> Returned {
-    match c {
-        Call::Restore { record, handoff } => {
-            restore(s, record, handoff, numbers, lengths, body, outbound)
-        }
-        _ => send(c, s, body, list, delivery, outbound, queue),
+        _ => receive(c, s, buffers, stores),
     }
 }

@@ -1,12 +1,12 @@
 // The state of a session, printed.
-ghost use Rattle.std.specs.Prelude.{◌≤◌};
-
+use crate::{part, print_body};
+use lines::Output;
 use numbers::Numbers;
 use outbox::Outbox;
 use peer_session::{SessionState, Stage, TerminalHandoff};
 use queue::Queue;
 use rules::{Clock, ReceiveMode, Setup, Terms};
-use std::io::Stdout;
+use scripts::print_field;
 
 fn setup_number(setup: Setup) -> u64 {
     match setup {
@@ -19,15 +19,12 @@ fn setup_number(setup: Setup) -> u64 {
 
 // The terms of a setup that waits, and zeros of any other.
 fn terms_of(setup: Setup) -> Terms {
-    let none = Terms {
-        number: 0,
-        initiator: false,
-    };
     match setup {
-        Setup::None => none,
         Setup::Waiting(t) => t,
-        Setup::Started => none,
-        Setup::Retired => none,
+        _ => Terms {
+            number: 0,
+            initiator: false,
+        },
     }
 }
 
@@ -41,20 +38,19 @@ fn mode_number(mode: ReceiveMode) -> u64 {
     }
 }
 
-fn print_stage(stdout: Stdout, out: &mut [u8; 65536], used: usize, g: Stage) -> usize
-    requires { used ≤ 65536 }
-    ensures { result ≤ 65536 }
-{
-    let setup = g.setup;
-    let mode = g.mode;
-    let t = terms_of(setup);
-    let a = scripts::print_field(stdout, out, used, g.disposition as u64);
-    let b = scripts::print_field(stdout, out, a, setup_number(setup));
-    let c = scripts::print_field(stdout, out, b, t.number as u64);
-    let d = crate::print_flag(stdout, out, c, t.initiator);
-    let e = scripts::print_field(stdout, out, d, mode_number(mode));
-    let n = crate::print_flag(stdout, out, e, g.failed);
-    lines::print_byte(stdout, out, n, 10)
+fn print_flag(out: &mut Output, flag: bool) {
+    print_field(out, u64::from(flag));
+}
+
+fn print_stage(out: &mut Output, g: Stage) {
+    let t = terms_of(g.setup);
+    print_field(out, g.disposition as u64);
+    print_field(out, setup_number(g.setup));
+    print_field(out, u64::from(t.number));
+    print_flag(out, t.initiator);
+    print_field(out, mode_number(g.mode));
+    print_flag(out, g.failed);
+    out.print_byte(b'\n');
 }
 
 // Of a NaN the language reads no bits, so any NaN is one here.
@@ -67,144 +63,77 @@ fn pattern_of(x: f64) -> u64 {
     NAN_PATTERN
 }
 
-fn print_clock(
-    stdout: Stdout,
-    out: &mut [u8; 65536],
-    used: usize,
-    c: Clock,
-    released_remote: u64,
-) -> usize
-    requires { used ≤ 65536 }
-    ensures { result ≤ 65536 }
-{
-    let a = lines::print_bytes(stdout, out, used, b"clock");
-    let b = scripts::print_field(stdout, out, a, c.generation as u64);
-    let d = scripts::print_field(stdout, out, b, c.released as u64);
-    let e = scripts::print_field(stdout, out, d, c.persisted as u64);
-    let f = scripts::print_field(stdout, out, e, released_remote);
-    let g = lines::print_byte(stdout, out, f, 32);
-    let n = lines::print_hex16(stdout, out, g, pattern_of(c.last_replay_at));
-    lines::print_byte(stdout, out, n, 10)
+fn print_clock(out: &mut Output, c: Clock, released_remote: u64) {
+    out.print_bytes(b"clock");
+    print_field(out, u64::from(c.generation));
+    print_field(out, u64::from(c.released));
+    print_field(out, u64::from(c.persisted));
+    print_field(out, released_remote);
+    out.print_byte(b' ');
+    out.print_hex16(pattern_of(c.last_replay_at));
+    out.print_byte(b'\n');
 }
 
-// A session that calls leave has no more records and numbers than its arrays hold.
-fn print_unacked(
-    stdout: Stdout,
-    out: &mut [u8; 65536],
-    used: usize,
-    o: Outbox,
-    store: &[u8],
-) -> usize
-    requires { used ≤ 65536 }
-    ensures { result ≤ 65536 }
-{
-    let count = o.count;
-    let a = lines::print_bytes(stdout, out, used, b"unacked");
-    let mut n = scripts::print_field(stdout, out, a, count as u64);
+fn print_unacked(out: &mut Output, o: Outbox, store: &[u8]) {
+    out.print_bytes(b"unacked");
+    print_field(out, o.count as u64);
     let mut from: u64 = 0;
-    let mut i = 0;
-    while i < count {
-        if 256 <= i {
-            return n;
-        }
-        let u = o.records[i];
-        let len = u.len as u64;
-        n = scripts::print_field(stdout, out, n, u.number as u64);
-        n = crate::print_flag(stdout, out, n, u.pending);
-        n = crate::print_flag(stdout, out, n, u.unsent);
-        n = crate::print_body(stdout, out, n, crate::part(store, from, len));
-        from = std::num::wrapping_add_u64(from, len);
-        i += 1;
+    for u in text::front(&o.records, o.count) {
+        let len = u64::from(u.len);
+        print_field(out, u64::from(u.number));
+        print_flag(out, u.pending);
+        print_flag(out, u.unsent);
+        print_body(out, part(store, from, len));
+        from = from.wrapping_add(len);
     }
-    lines::print_byte(stdout, out, n, 10)
+    out.print_byte(b'\n');
 }
 
-fn print_queue(stdout: Stdout, out: &mut [u8; 65536], used: usize, q: Queue, store: &[u8]) -> usize
-    requires { used ≤ 65536 }
-    ensures { result ≤ 65536 }
-{
-    let count = q.count;
-    let a = lines::print_bytes(stdout, out, used, b"queue");
-    let mut n = scripts::print_field(stdout, out, a, count as u64);
+fn print_queue(out: &mut Output, q: Queue, store: &[u8]) {
+    out.print_bytes(b"queue");
+    print_field(out, q.count as u64);
     let mut from: u64 = 0;
-    let mut i = 0;
-    while i < count {
-        if 256 <= i {
-            return n;
-        }
-        let u = q.records[i];
-        let len = u.len as u64;
-        n = scripts::print_field(stdout, out, n, u.number);
-        n = scripts::print_field(stdout, out, n, u.kind as u64);
-        n = crate::print_body(stdout, out, n, crate::part(store, from, len));
-        from = std::num::wrapping_add_u64(from, len);
-        i += 1;
+    for u in text::front(&q.records, q.count) {
+        let len = u64::from(u.len);
+        print_field(out, u.number);
+        print_field(out, u64::from(u.kind));
+        print_body(out, part(store, from, len));
+        from = from.wrapping_add(len);
     }
-    lines::print_byte(stdout, out, n, 10)
+    out.print_byte(b'\n');
 }
 
-fn print_numbers(
-    stdout: Stdout,
-    out: &mut [u8; 65536],
-    used: usize,
-    word: &[u8],
-    v: Numbers,
-) -> usize
-    requires { used ≤ 65536 }
-    ensures { result ≤ 65536 }
-{
-    let count = v.count;
-    let a = lines::print_bytes(stdout, out, used, word);
-    let mut n = scripts::print_field(stdout, out, a, count as u64);
-    let mut i = 0;
-    while i < count {
-        if 512 <= i {
-            return n;
-        }
-        n = scripts::print_field(stdout, out, n, v.values[i]);
-        i += 1;
+fn print_numbers(out: &mut Output, word: &[u8], v: Numbers) {
+    out.print_bytes(word);
+    print_field(out, v.count as u64);
+    for &n in text::front(&v.values, v.count) {
+        print_field(out, n);
     }
-    lines::print_byte(stdout, out, n, 10)
+    out.print_byte(b'\n');
 }
 
-fn print_handoff(stdout: Stdout, out: &mut [u8; 65536], used: usize, h: TerminalHandoff) -> usize
-    requires { used ≤ 65536 }
-    ensures { result ≤ 65536 }
-{
-    let body = h.body;
-    let a = lines::print_bytes(stdout, out, used, b"handoff");
-    if !h.present {
-        let z = scripts::print_field(stdout, out, a, 0);
-        return lines::print_byte(stdout, out, z, 10);
+fn print_handoff(out: &mut Output, h: TerminalHandoff) {
+    out.print_bytes(b"handoff");
+    print_flag(out, h.present);
+    if h.present {
+        print_field(out, h.id);
+        print_field(out, h.number);
+        print_flag(out, h.sent);
+        print_flag(out, h.acknowledged);
+        print_body(out, text::front(&h.body, h.len));
     }
-    let b = scripts::print_field(stdout, out, a, 1);
-    let c = scripts::print_field(stdout, out, b, h.id);
-    let d = scripts::print_field(stdout, out, c, h.number);
-    let e = crate::print_flag(stdout, out, d, h.sent);
-    let f = crate::print_flag(stdout, out, e, h.acknowledged);
-    let n = crate::print_body(stdout, out, f, text::front(&body, h.len));
-    lines::print_byte(stdout, out, n, 10)
+    out.print_byte(b'\n');
 }
 
-pub fn print_state(
-    stdout: Stdout,
-    out: &mut [u8; 65536],
-    used: usize,
-    s: SessionState,
-    outbound: &[u8],
-    queue: &[u8],
-) -> usize
-    requires { used ≤ 65536 }
-    ensures { result ≤ 65536 }
-{
-    let a = lines::print_bytes(stdout, out, used, b"state");
-    let b = scripts::print_field(stdout, out, a, s.outbox.next);
-    let c = scripts::print_field(stdout, out, b, s.remote);
-    let d = print_stage(stdout, out, c, s.stage);
-    let e = print_clock(stdout, out, d, s.clock, s.released);
-    let f = print_unacked(stdout, out, e, s.outbox, outbound);
-    let g = print_queue(stdout, out, f, s.queue, queue);
-    let i = print_numbers(stdout, out, g, b"waiting", s.waiting);
-    let j = print_numbers(stdout, out, i, b"retry", s.retry);
-    print_handoff(stdout, out, j, s.handoff)
+pub fn print_state(out: &mut Output, s: SessionState, outbound: &[u8], queue: &[u8]) {
+    out.print_bytes(b"state");
+    print_field(out, s.outbox.next);
+    print_field(out, s.remote);
+    print_stage(out, s.stage);
+    print_clock(out, s.clock, s.released);
+    print_unacked(out, s.outbox, outbound);
+    print_queue(out, s.queue, queue);
+    print_numbers(out, b"waiting", s.waiting);
+    print_numbers(out, b"retry", s.retry);
+    print_handoff(out, s.handoff);
 }

@@ -1,207 +1,71 @@
 // What the call script prints of a call, and of the state of a session.
 #![tactic(auto)]
 
-ghost use Rattle.std.specs.Prelude.{◌+◌, ◌≤◌};
-
+use lines::Output;
 use rules::Answer;
-use std::io::Stdout;
 
 pub mod dumping; // the state of a session
 
 // The len bytes from index start on, none where the slice does not have them.
 fn part(s: &[u8], start: u64, len: u64) -> &[u8] {
-    let from = start as usize;
-    let n = len as usize;
-    if from <= s.len() {
-        if n <= s.len() - from {
-            return &s[from..from + n];
-        }
-    }
-    text::front(s, 0)
-}
-
-fn print_flag(stdout: Stdout, out: &mut [u8; 65536], used: usize, b: bool) -> usize
-    requires { used ≤ 65536 }
-    ensures { result ≤ 65536 }
-{
-    if b {
-        return scripts::print_field(stdout, out, used, 1);
-    }
-    scripts::print_field(stdout, out, used, 0)
+    let rest = s.get(start as usize..).unwrap_or(b"");
+    rest.get(..len as usize).unwrap_or(b"")
 }
 
 // A space and a body.
-fn print_body(stdout: Stdout, out: &mut [u8; 65536], used: usize, b: &[u8]) -> usize
-    requires { used ≤ 65536 }
-    ensures { result ≤ 65536 }
-{
-    let n = lines::print_byte(stdout, out, used, 32);
-    lines::print_hex(stdout, out, n, b)
+fn print_body(out: &mut Output, body: &[u8]) {
+    out.print_byte(b' ');
+    out.print_hex(body);
 }
 
-fn print_refusal(
-    stdout: Stdout,
-    out: &mut [u8; 65536],
-    used: usize,
-    number: u64,
-    events: usize,
-) -> usize
-    requires { used ≤ 65536 }
-    ensures { result ≤ 65536 }
-{
-    let n = lines::print_bytes(stdout, out, used, b" !");
-    scripts::print_count(stdout, out, n, number, events)
-}
-
-fn print_answer(
-    stdout: Stdout,
-    out: &mut [u8; 65536],
-    used: usize,
-    a: Answer,
-    events: usize,
-) -> usize
-    requires { used ≤ 65536 }
-    ensures { result ≤ 65536 }
-{
+fn print_answer(out: &mut Output, a: Answer, events: usize) {
     match a {
-        Answer::Refused(x) => print_refusal(stdout, out, used, answers::refusal_number(x), events),
-        Answer::Prepared(c) => scripts::print_commit(stdout, out, used, c),
-        _ => scripts::print_count(stdout, out, used, answers::answer_value(a), events),
+        Answer::Refused(x) => {
+            out.print_bytes(b" !");
+            scripts::print_count(out, answers::refusal_number(x), events);
+        }
+        Answer::Prepared(c) => scripts::print_commit(out, c),
+        _ => scripts::print_count(out, answers::answer_value(a), events),
     }
 }
 
-// Where the body lies in the outbound store, and the body.
-fn print_held(
-    stdout: Stdout,
-    out: &mut [u8; 65536],
-    used: usize,
-    start: usize,
-    len: usize,
-    body: &[u8],
-) -> usize
-    requires { used ≤ 65536 }
-    ensures { result ≤ 65536 }
-{
-    let n = scripts::print_field(stdout, out, used, start as u64);
-    let m = scripts::print_field(stdout, out, n, len as u64);
-    print_body(stdout, out, m, body)
-}
-
-fn print_found(stdout: Stdout, out: &mut [u8; 65536], used: usize, a: Answer, body: &[u8]) -> usize
-    requires { used ≤ 65536 }
-    ensures { result ≤ 65536 }
-{
+// Of a body that is held, where it lies in the outbound store, and the body.
+pub fn print_fetch(out: &mut Output, a: Answer, body: &[u8]) {
+    out.print_bytes(b"fetch");
     match a {
-        Answer::Held { start, len } => print_held(stdout, out, used, start, len, body),
-        Answer::NotHeld => lines::print_bytes(stdout, out, used, b" none"),
-        _ => print_answer(stdout, out, used, a, 0),
+        Answer::Held { start, len } => {
+            scripts::print_field(out, start as u64);
+            scripts::print_field(out, len as u64);
+            print_body(out, body);
+        }
+        Answer::NotHeld => out.print_bytes(b" none"),
+        _ => print_answer(out, a, 0),
     }
+    out.print_byte(b'\n');
 }
 
-pub fn print_fetch(
-    stdout: Stdout,
-    out: &mut [u8; 65536],
-    used: usize,
-    a: Answer,
-    body: &[u8],
-) -> usize
-    requires { used ≤ 65536 }
-    ensures { result ≤ 65536 }
-{
-    let n = lines::print_bytes(stdout, out, used, b"fetch");
-    let m = print_found(stdout, out, n, a, body);
-    lines::print_byte(stdout, out, m, 10)
-}
-
-// The body that an event of this code points to.
-fn print_pointed(
-    stdout: Stdout,
-    out: &mut [u8; 65536],
-    used: usize,
-    code: u64,
-    start: u64,
-    len: u64,
-    delivery: &[u8],
-    outbound: &[u8],
-) -> usize
-    requires { used ≤ 65536 }
-    ensures { result ≤ 65536 }
-{
-    match code {
-        2 => print_body(stdout, out, used, part(delivery, start, len)),
-        8 => print_body(stdout, out, used, part(outbound, start, len)),
-        _ => used,
+// The body that an event points to, by its code, in one of the two stores.
+fn print_pointed(out: &mut Output, event: &[u64], delivery: &[u8], outbound: &[u8]) {
+    match *event {
+        [2, _, start, len] => print_body(out, part(delivery, start, len)),
+        [8, _, start, len] => print_body(out, part(outbound, start, len)),
+        _ => {}
     }
-}
-
-// The event whose words start at index at.
-fn print_event(
-    stdout: Stdout,
-    out: &mut [u8; 65536],
-    used: usize,
-    list: &[u64; 4096],
-    at: usize,
-    delivery: &[u8],
-    outbound: &[u8],
-) -> usize
-    requires { (used ≤ 65536) × (at + 4 ≤ 4096) }
-    ensures { result ≤ 65536 }
-{
-    let n = scripts::print_words(stdout, out, used, list, at);
-    let m = print_pointed(
-        stdout,
-        out,
-        n,
-        list[at],
-        list[at + 2],
-        list[at + 3],
-        delivery,
-        outbound,
-    );
-    lines::print_byte(stdout, out, m, 10)
-}
-
-// No call lists more than 1,024 events, which is what the list holds.
-fn print_events(
-    stdout: Stdout,
-    out: &mut [u8; 65536],
-    used: usize,
-    list: &[u64; 4096],
-    events: usize,
-    delivery: &[u8],
-    outbound: &[u8],
-) -> usize
-    requires { used ≤ 65536 }
-    ensures { result ≤ 65536 }
-{
-    if 1024 < events {
-        return used;
-    }
-    let mut n = used;
-    let mut i = 0;
-    while i < events {
-        n = print_event(stdout, out, n, list, i * 4, delivery, outbound);
-        i += 1;
-    }
-    n
 }
 
 pub fn print_call(
-    stdout: Stdout,
-    out: &mut [u8; 65536],
-    used: usize,
+    out: &mut Output,
     word: &[u8],
     a: Answer,
     events: usize,
     list: &[u64; 4096],
     delivery: &[u8],
     outbound: &[u8],
-) -> usize
-    requires { used ≤ 65536 }
-    ensures { result ≤ 65536 }
-{
-    let n = lines::print_bytes(stdout, out, used, word);
-    let m = print_answer(stdout, out, n, a, events);
-    let k = lines::print_byte(stdout, out, m, 10);
-    print_events(stdout, out, k, list, events, delivery, outbound)
+) {
+    out.print_bytes(word);
+    print_answer(out, a, events);
+    out.print_byte(b'\n');
+    scripts::print_events(out, list, events, |out, event| {
+        print_pointed(out, event, delivery, outbound)
+    });
 }

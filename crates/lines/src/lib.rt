@@ -1,8 +1,7 @@
-// Standard input in chunks, and standard output through a buffer of 65,536 bytes that is written when it is full. What print_.. puts there
-// starts at index n, and they return the index after it; the caller ends with flush.
+// Standard input by lines, and standard output through a buffer of 65,536 bytes that is written when it is full.
 #![tactic(auto)]
 
-ghost use Rattle.std.specs.Prelude.{◌+◌, ◌≤◌, length};
+ghost use Rattle.std.specs.Prelude.{◌≡◌, ◌+◌, ◌≤◌, length};
 ghost use Rattle.text.specs.Output.{Put};
 ghost use Rattle.lines.specs.Numerals.{Decimals, hex16_text};
 
@@ -33,153 +32,142 @@ pub fn read_some(stdin: Stdin, chunk: &mut [u8; 65536]) -> usize
     ensures { result ≤ 65536 }
 {
     let mut input = stdin;
-    match input.read(chunk) {
-        Ok(got) => got,
-        Err(_) => 0,
-    }
+    input.read(chunk).unwrap_or(0)
 }
 
-// The input so far: the index where the chunk goes on, how much of the chunk is filled, and of the last line its size, which is one more than its
-// buffer's where it is too long, and whether there was one.
+// Says of a line that its buffer does not hold it.
 #[derive(Clone, Copy)]
+pub struct TooLong;
+
+// Standard input: the last chunk that was read, how much of it is filled, and the index where it goes on.
+#[derive(Drop)]
 pub struct Input {
-    pub at: usize,
-    pub filled: usize,
-    pub size: usize,
-    pub found: bool,
+    stdin: Stdin,
+    chunk: [u8; 65536],
+    filled: usize,
+    at: usize,
+    ghost on: { at ≤ filled },
+    ghost within: { filled ≤ 65536 },
 }
 
-pub fn no_input() -> Input {
-    Input {
-        at: 0,
-        filled: 0,
-        size: 0,
-        found: false,
-    }
-}
-
-// Puts what the chunk has left of a line after what was read of it.
-fn gather_on(chunk: &[u8; 65536], line: &mut [u8], i: Input) -> Input {
-    let some = text::front(chunk, i.filled);
-    let at = i.at;
-    if some.len() <= at {
-        return i;
-    }
-    let q = text::gather_line(some, at, line, i.size);
-    Input {
-        at: q.next,
-        filled: i.filled,
-        size: q.size,
-        found: q.whole,
-    }
-}
-
-// Reads the next line. A last line that has no end counts.
-pub fn next_line(stdin: Stdin, chunk: &mut [u8; 65536], line: &mut [u8], i: Input) -> Input {
-    let mut r = i;
-    r.size = 0;
-    r.found = false;
-    let mut turns = u64::MAX;
-    while turns > 0 {
-        r = gather_on(chunk, line, r);
-        if r.found {
-            return r;
+impl Input {
+    pub fn new(stdin: Stdin) -> Self {
+        Input {
+            stdin,
+            chunk: [0; 65536],
+            filled: 0,
+            at: 0,
         }
-        r.at = 0;
-        r.filled = read_some(stdin, chunk);
-        if r.filled == 0 {
-            r.found = 0 < r.size;
-            return r;
+    }
+
+    // Reads a line into its buffer, and returns its size, which is one more than the buffer's where it is too long.
+    fn read_line(&mut self, line: &mut [u8]) -> Option<usize> {
+        let mut size = 0;
+        for _ in 0..u64::MAX {
+            let chunk = text::front(&self.chunk, self.filled);
+            let piece = text::gather_line(chunk, self.at, line, size);
+            size = piece.size;
+            if let Some(next) = piece.next {
+                self.at = next;
+                return Some(size);
+            }
+            self.at = 0;
+            self.filled = read_some(self.stdin, &mut self.chunk);
+            if self.filled == 0 {
+                return if size == 0 { None } else { Some(size) };
+            }
         }
-        turns -= 1;
+        None
     }
-    r
-}
 
-fn write_front(stdout: Stdout, out: &[u8], n: usize)
-    requires { n ≤ length out.now }
-{
-    let mut output = stdout;
-    let _ = output.write_all(&out[..n]);
-}
-
-// Writes what out has up to index n.
-pub fn flush(stdout: Stdout, out: &[u8; 65536], n: usize)
-    requires { n ≤ 65536 }
-{
-    write_front(stdout, out, n);
-}
-
-// Where k bytes can go: at n, or at 0 once out is written.
-fn room(stdout: Stdout, out: &[u8; 65536], n: usize, k: usize) -> usize
-    requires { (n ≤ 65536) × (k ≤ 65536) }
-    ensures { result + k ≤ 65536 }
-{
-    if n + k <= 65536 {
-        return n;
+    // The next line, which lies in line. A last line that has no end counts.
+    pub fn next_line<'a>(&mut self, line: &'a mut [u8]) -> Option<Result<&'a [u8], TooLong>> {
+        let size = self.read_line(line)?;
+        if line.len() < size {
+            return Some(Err(TooLong));
+        }
+        Some(Ok(&line[..size]))
     }
-    flush(stdout, out, n);
-    0
 }
 
-pub fn print_byte(stdout: Stdout, out: &mut [u8; 65536], n: usize, b: u8) -> usize
-    requires { n ≤ 65536 }
-    ensures { result ≤ 65536 }
-{
-    let m = room(stdout, out, n, 1);
-    text::put_byte(out, m, b)
+// Standard output, and the bytes for it that are not yet written. It is not Drop, so that the caller has to end with finish. Numbers are put there by put_decimal and put_hex16,
+// whose contracts say the digits, and not by `write!`, which would give each function that prints a Result for an error that no one reads.
+pub struct Output {
+    pub stdout: Stdout,
+    pub bytes: [u8; 65536],
+    pub used: usize,
+    ghost within: { used ≤ 65536 },
 }
 
-pub fn print_decimal(stdout: Stdout, out: &mut [u8; 65536], n: usize, v: u64) -> usize
-    requires { n ≤ 65536 }
-    ensures { result ≤ 65536 }
-{
-    let m = room(stdout, out, n, 20);
-    put_decimal(out, m, v)
-}
-
-pub fn print_hex16(stdout: Stdout, out: &mut [u8; 65536], n: usize, v: u64) -> usize
-    requires { n ≤ 65536 }
-    ensures { result ≤ 65536 }
-{
-    let m = room(stdout, out, n, 16);
-    put_hex16(out, m, v)
-}
-
-pub fn print_bytes(stdout: Stdout, out: &mut [u8; 65536], n: usize, b: &[u8]) -> usize
-    requires { n ≤ 65536 }
-    ensures { result ≤ 65536 }
-{
-    let mut m = n;
-    let mut i = 0;
-    while i < b.len() {
-        m = print_byte(stdout, out, m, b[i]);
-        i += 1;
+impl Output {
+    pub fn new(stdout: Stdout) -> Self {
+        Output {
+            stdout,
+            bytes: [0; 65536],
+            used: 0,
+        }
     }
-    m
-}
 
-fn print_hex_byte(stdout: Stdout, out: &mut [u8; 65536], n: usize, b: u8) -> usize
-    requires { n ≤ 65536 }
-    ensures { result ≤ 65536 }
-{
-    let m = room(stdout, out, n, 2);
-    text::put_hex_byte(out, m, b)
-}
+    // Writes what is there. An error is ignored.
+    pub fn flush(&mut self)
+        ensures { self.new.used ≡ 0 }
+    {
+        let _ = self.stdout.write_all(&self.bytes[..self.used]);
+        self.used = 0;
+    }
 
-// A body in hex, `-` where it is empty.
-pub fn print_hex(stdout: Stdout, out: &mut [u8; 65536], n: usize, b: &[u8]) -> usize
-    requires { n ≤ 65536 }
-    ensures { result ≤ 65536 }
-{
-    if b.len() == 0 {
-        return print_byte(stdout, out, n, 45);
+    pub fn finish(mut self) {
+        self.flush();
+        let Output {
+            stdout: _stdout,
+            bytes: _bytes,
+            used: _used,
+        } = self;
     }
-    let mut m = n;
-    let mut i = 0;
-    while i < b.len() {
-        m = print_hex_byte(stdout, out, m, b[i]);
-        i += 1;
+
+    // Makes room for n bytes.
+    fn make_room(&mut self, n: usize)
+        requires { n ≤ 65536 }
+        ensures { self.new.used + n ≤ 65536 }
+    {
+        if 65536 - self.used < n {
+            self.flush();
+        }
     }
-    m
+
+    pub fn print_byte(&mut self, b: u8) {
+        self.make_room(1);
+        self.used = text::put_byte(&mut self.bytes, self.used, b);
+    }
+
+    pub fn print_decimal(&mut self, v: u64) {
+        self.make_room(20);
+        self.used = put_decimal(&mut self.bytes, self.used, v);
+    }
+
+    pub fn print_hex16(&mut self, v: u64) {
+        self.make_room(16);
+        self.used = put_hex16(&mut self.bytes, self.used, v);
+    }
+
+    pub fn print_bytes(&mut self, bytes: &[u8]) {
+        for &b in bytes {
+            self.print_byte(b);
+        }
+    }
+
+    fn print_hex_byte(&mut self, b: u8) {
+        self.make_room(2);
+        self.used = text::put_hex_byte(&mut self.bytes, self.used, b);
+    }
+
+    // A body in hex, `-` where it is empty.
+    pub fn print_hex(&mut self, body: &[u8]) {
+        if body.is_empty() {
+            self.print_byte(b'-');
+        }
+        for &b in body {
+            self.print_hex_byte(b);
+        }
+    }
 }

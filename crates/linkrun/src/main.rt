@@ -1,4 +1,4 @@
-// Document 01's short run: reads calls on standard input, for a fresh class 2 session, and prints each.
+// Reads calls on standard input, for a fresh class 2 session, and prints each.
 #![tactic(auto)]
 
 fn main(rt: HostRuntime) {

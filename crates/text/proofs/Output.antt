@@ -1,7 +1,7 @@
 -- The laws of text put into a buffer. Assumes nothing.
 use mathlib.Core.Path.{◌≡◌, refl, ap, subst, ◌∙◌}
 use mathlib.Core.List.{List, [], ◌∷◌, ◌++◌}
-use Prim.Native.Nat.{ℕ, ◌+◌, ◌/◌, ◌%◌, ◌≤◌, ◌<◌}
+use Prim.Native.Nat.{ℕ, ◌+◌, ◌-◌, ◌/◌, ◌%◌, ◌≤◌, ◌<◌}
 use native.Mathlib.Omega.{arith}
 use native.Mathlib.Numerals.{add-one}
 use lib.ListN.{length, take, drop, set, length-append}
@@ -11,13 +11,13 @@ use Rattle.stores.specs.Placed.{placed}
 use Rattle.stores.proofs.Laws.{placed-placed}
 use Rattle.text.specs.Output.{Put, glyph_of, hex_byte}
 
-pub glyph_low : (d : ℕ) → d < 10 → d + 48 ≡ glyph_of d
+pub glyph_low : (d : ℕ) → d < 10 → 48 + d ≡ glyph_of d
 unfolding glyph_of
-glyph_low d h = rw (lt-ltb d 10 h)
+glyph_low d h = rw (lt-ltb d 10 h) (omega arith)
 
-pub glyph_high : (d : ℕ) → 10 ≤ d → d + 87 ≡ glyph_of d
+pub glyph_high : (d : ℕ) → 10 ≤ d → 97 + (d - 10) ≡ glyph_of d
 unfolding glyph_of
-glyph_high d h = rw (le-ltb d 10 h)
+glyph_high d h = rw (le-ltb d 10 h) (omega arith)
 
 pub put_one : (out : List ℕ) (n b : ℕ) → n < length out → Put out n (b ∷ []) (n + 1) (set out n b)
 unfolding placed

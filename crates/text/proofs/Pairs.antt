@@ -6,17 +6,17 @@ use Prim.Native.Nat.{ℕ, zero, suc, ◌+◌, ◌*◌, ◌/◌, ◌%◌, ◌≤�
 use native.Mathlib.Omega.{arith}
 use native.Mathlib.Nat.{zero-add}
 use lib.Dec.{leb, eqb}
-use lib.ListN.{length, drop, get_or, set, drop_of_length-le}
+use lib.ListN.{length, get_or, set}
 use borrow.Author.Tests.{ltb-true, lt-ltb, le-ltb, le-leb, lt-leb, eq-eqb, ne_eqb, eqb-true}
 use Rattle.rules.specs.Lists.{all, empty}
 use Rattle.rules.proofs.Lists.{and_left, and_right}
 use Rattle.stores.specs.Placed.{placed}
 use Rattle.stores.proofs.Laws.{placed-none}
 use Rattle.stores.proofs.Runs.{Run, run_more}
-use Rattle.text.specs.declared.Bytes.TheVariants.{Count, Wrong}
+use Rattle.std.specs.Prelude.{Some, None}
+use Rattle.std.specs.List.{list_all}
 use Rattle.text.specs.Hex.{pairs, is_dash, is_pairs, hex_of, fitting, Decoded}
 use Rattle.text.specs.Numbers.{digit_of, is_digit_byte}
-use Rattle.stores.proofs.Matches.{drop_here}
 
 -- ---- all are digits
 
@@ -28,30 +28,10 @@ pub no_digit : (base b : ℕ) {d : ℕ} → d ≡ digit_of b → base ≤ d → 
 unfolding is_digit_byte
 no_digit base b e h = le-ltb (digit_of b) base (omega arith)
 
--- What a loop keeps that tests each element
-pub record Testing (p : ℕ → Bool) (s : List ℕ) (i : ℕ) : Type 0 where
-  pub within : i ≤ length s
-  pub left : all p (drop i s) ≡ all p s
-
-pub testing_none : (p : ℕ → Bool) (s : List ℕ) → Testing p s 0
-testing_none p s = record { within = omega arith; left = refl }
-
-module _ {p : ℕ → Bool} {s : List ℕ} {i : ℕ} (r : Testing p s i) where
-  pub testing_more : i < length s → p (get_or s i 0) ≡ true → Testing p s (i + 1)
-  unfolding all
-  testing_more h e =
-      let step : all p (drop i s) ≡ all p (drop (i + 1) s) = ap (all p) (drop_here s i h) ∙ rw e in
-      record { within = omega arith; left = sym step ∙ r.left }
-
-  pub testing_stop : i < length s → p (get_or s i 0) ≡ false → false ≡ all p s
-  unfolding all
-  testing_stop h e =
-      let step : all p (drop i s) ≡ false = ap (all p) (drop_here s i h) ∙ rw e in
-      sym step ∙ r.left
-
-  pub testing_all : length s ≤ i → true ≡ all p s
-  unfolding all
-  testing_all h = sym (ap (all p) (drop_of_length-le s h)) ∙ r.left
+pub all-list_all : (p : ℕ → Bool) (s : List ℕ) → list_all p s ≡ all p s
+unfolding all
+all-list_all p [] = refl
+all-list_all p (x ∷ s) = ap (λ (t : Bool). p x && t) (all-list_all p s)
 
 all-at : (p : ℕ → Bool) (s : List ℕ) → all p s ≡ true → (i : ℕ) → i < length s → p (get_or s i 0) ≡ true
 unfolding all
@@ -133,13 +113,13 @@ module _ (s : List ℕ) (e : is_pairs s ≡ true) where
 
 -- ---- what is read
 
-pub decoded_dash : (s out : List ℕ) → is_dash s ≡ true → Decoded s out (Count 0) out
+pub decoded_dash : (s out : List ℕ) → is_dash s ≡ true → Decoded s out (Some 0) out
 unfolding hex_of fitting
 decoded_dash s out e =
     let z : leb 0 (length out) ≡ true = le-leb 0 (length out) (omega arith) in
     record { answer = simp (e, z); bytes = simp (e, z) (sym (placed-none out 0)) }
 
-pub decoded_wrong : (s out : List ℕ) → is_dash s ≡ false → is_pairs s ≡ false → Decoded s out Wrong out
+pub decoded_wrong : (s out : List ℕ) → is_dash s ≡ false → is_pairs s ≡ false → Decoded s out None out
 unfolding hex_of fitting
 decoded_wrong s out e f = record { answer = simp (e, f); bytes = simp (e, f) }
 
@@ -147,14 +127,14 @@ module _ (s out : List ℕ) (e : is_dash s ≡ false) (f : is_pairs s ≡ true) 
   size : length (pairs s) ≡ length s / 2
   size = length_pairs s (length s / 2) (halves s f)
 
-  pub decoded_long : length out < length s / 2 → Decoded s out Wrong out
+  pub decoded_long : length out < length s / 2 → Decoded s out None out
   unfolding hex_of fitting
   decoded_long h =
       let l : leb (length (pairs s)) (length out) ≡ false = lt-leb (length (pairs s)) (length out) (omega (arith, size)) in
       record { answer = simp (e, f, l); bytes = simp (e, f, l) }
 
-  pub decoded_pairs : (out' : List ℕ) → length s / 2 ≤ length out → out' ≡ placed out 0 (pairs s) → Decoded s out (Count (length s / 2)) out'
+  pub decoded_pairs : (out' : List ℕ) → length s / 2 ≤ length out → out' ≡ placed out 0 (pairs s) → Decoded s out (Some (length s / 2)) out'
   unfolding hex_of fitting
   decoded_pairs out' h g =
       let l : leb (length (pairs s)) (length out) ≡ true = le-leb (length (pairs s)) (length out) (omega (arith, size)) in
-      record { answer = simp (e, f, l) (ap Count (sym size)); bytes = simp (e, f, l) g }
+      record { answer = simp (e, f, l) (ap Some (sym size)); bytes = simp (e, f, l) g }

@@ -1,5 +1,5 @@
 -- The fields of a line, one space between two of them, and a line that is gathered from parts of the input. Assumes nothing.
-use Rattle.std.specs.Prelude.{ℕ, ◌+◌, ◌-◌, ◌≤◌, ◌<◌, ◌≡◌, Bool, List, leb, ltb, eqb, length, take, drop, if◌then◌else◌}
+use Rattle.std.specs.Prelude.{ℕ, ◌+◌, ◌-◌, ◌≤◌, ◌<◌, ◌≡◌, Bool, List, leb, ltb, eqb, length, take, drop, if◌then◌else◌, Option, Some, None, IfSome}
 use Rattle.rules.specs.Lists.{before, same}
 use Rattle.stores.specs.Placed.{placed}
 use Rattle.text.specs.declared.Piece.{Piece}
@@ -23,6 +23,12 @@ pub record Found (b : ℕ) (s : List ℕ) (at r : ℕ) : Type 0 where
 unfoldable pub field_of : List ℕ → ℕ → List ℕ
 field_of s at = take (place_of 32 s at - at) (drop at s)
 
+-- the field after the one that ends at index end is f, which ends at index e
+pub record NextField (s : List ℕ) (end : ℕ) (f : List ℕ) (e : ℕ) : Type 0 where
+  pub some : end < length s
+  pub field : f ≡ field_of s (end + 1)
+  pub place : e ≡ place_of 32 s (end + 1)
+
 -- the first field is the word w
 unfoldable pub has_word : List ℕ → List ℕ → Bool
 has_word s w = same (field_of s 0) w
@@ -42,10 +48,13 @@ pub record Grown (line : List ℕ) (n : ℕ) (part : List ℕ) (r : ℕ) (line' 
 abbrev pub part_of : List ℕ → ℕ → List ℕ
 part_of chunk at = take (place_of 10 chunk at - at) (drop at chunk)
 
--- a line in a buffer after the part of a chunk from index at on: its size and bytes, whether it is whole, and where the chunk goes on
+-- where the input goes on after the line end of that part, if it has one
+unfoldable pub next_of : List ℕ → ℕ → Option ℕ
+next_of chunk at = if ltb (place_of 10 chunk at) (length chunk) then Some (place_of 10 chunk at + 1) else None
+
+-- a line in a buffer after the part of a chunk from index at on: its size and bytes, and where the chunk goes on after its end
 pub record Gathered (chunk : List ℕ) (at : ℕ) (buffer : List ℕ) (n : ℕ) (r : Piece) (line' : List ℕ) : Type 0 where
   pub line : Grown buffer n (part_of chunk at) r.size line'
-  pub whole : r.whole ≡ ltb (place_of 10 chunk at) (length chunk)
-  pub next : r.next ≡ (if r.whole then (place_of 10 chunk at + 1) else (length chunk))
-  pub on : at < length chunk → at < r.next
-  pub within : r.next ≤ length chunk
+  pub next : r.next ≡ next_of chunk at
+  pub on : IfSome r.next (λ next. at < next)
+  pub within : IfSome r.next (λ next. next ≤ length chunk)

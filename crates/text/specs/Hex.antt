@@ -1,10 +1,7 @@
 -- Bytes as text: two hex digits each, in lower case, and `-` for none. Assumes nothing.
-use Rattle.std.specs.Prelude.{ℕ, ◌+◌, ◌*◌, ◌%◌, ◌≡◌, Bool, ◌&&◌, not, List, [], ◌∷◌, leb, eqb, length, get_or, if◌then◌else◌}
-use Rattle.std.proofs.Math.Option.{Option, none, some}
+use Rattle.std.specs.Prelude.{ℕ, ◌+◌, ◌*◌, ◌%◌, ◌≡◌, Bool, ◌&&◌, not, List, [], ◌∷◌, leb, eqb, length, get_or, if◌then◌else◌, Option, Some, None}
 use Rattle.rules.specs.Lists.{all, empty}
 use Rattle.stores.specs.Placed.{placed}
-use Rattle.text.specs.declared.Bytes.{Bytes}
-use Rattle.text.specs.declared.Bytes.TheVariants.{Count, Wrong}
 use Rattle.text.specs.Numbers.{digit_of, is_digit_byte}
 
 unfoldable pub pairs : List ℕ → List ℕ
@@ -20,22 +17,22 @@ unfoldable pub is_pairs : List ℕ → Bool
 is_pairs s = not (empty s) && (eqb (length s % 2) 0 && all (is_digit_byte 16) s)
 
 unfoldable pub hex_of : List ℕ → Option (List ℕ)
-hex_of s = if is_dash s then some [] else if is_pairs s then some (pairs s) else none
+hex_of s = if is_dash s then Some [] else if is_pairs s then Some (pairs s) else None
 
 -- the bytes that are read into room bytes
 unfoldable pub fitting : ℕ → Option (List ℕ) → Option (List ℕ)
-fitting room none = none
-fitting room (some bs) = if leb (length bs) room then some bs else none
+fitting room None = None
+fitting room (Some bs) = if leb (length bs) room then Some bs else None
 
-abbrev pub count_of : Option (List ℕ) → Bytes
-count_of none = Wrong
-count_of (some bs) = Count (length bs)
+abbrev pub count_of : Option (List ℕ) → Option ℕ
+count_of None = None
+count_of (Some bs) = Some (length bs)
 
 abbrev pub over : Option (List ℕ) → List ℕ → List ℕ
-over none out = out
-over (some bs) out = placed out 0 bs
+over None out = out
+over (Some bs) out = placed out 0 bs
 
 -- what reading s into a buffer answers, and leaves there: where it is wrong, all as it was
-pub record Decoded (s out : List ℕ) (r : Bytes) (out' : List ℕ) : Type 0 where
+pub record Decoded (s out : List ℕ) (r : Option ℕ) (out' : List ℕ) : Type 0 where
   pub answer : r ≡ count_of (fitting (length out) (hex_of s))
   pub bytes : out' ≡ over (fitting (length out) (hex_of s)) out

@@ -1,47 +1,22 @@
 // Text: the fields of a line, the numbers and bytes in them, a line that is gathered from parts of the input, and text put into a lent buffer.
 #![tactic(auto)]
 
-ghost use Rattle.std.specs.Prelude.{◌≡◌, true, [], ◌∷◌, ◌+◌, ◌-◌, ◌*◌, ◌≤◌, ◌<◌, length, take, drop};
+ghost use Rattle.std.specs.Prelude.{◌≡◌, true, [], ◌∷◌, ◌+◌, ◌-◌, ◌*◌, ◌≤◌, ◌<◌, length, take, drop, MatchOption};
 ghost use Rattle.rules.specs.Lists.{all};
 ghost use Rattle.stores.specs.Placed.{placed};
-ghost use Rattle.text.specs.Fields.{Found, has_word, Grown, Gathered};
-ghost use Rattle.text.specs.Filled.{filled_of, Filling};
+ghost use Rattle.text.specs.Fields.{Found, has_word, NextField, Grown, Gathered};
+ghost use Rattle.text.specs.Filled.{Filling};
 ghost use Rattle.text.specs.Hex.{pairs, is_dash, is_pairs, Decoded};
 ghost use Rattle.text.specs.Numbers.{digit_of, is_digit_byte, onward, number_of, decimal_of, hex16_of};
 ghost use Rattle.text.specs.Output.{glyph_of, hex_byte, Put};
-ghost use Rattle.text.specs.Taken.{taken_of, after};
+ghost use Rattle.text.specs.Taken.{after};
 
-#[derive(Clone, Copy)]
-pub enum Number {
-    Value(u64),
-    Wrong,
-}
-
-#[derive(Clone, Copy)]
-pub enum Bytes {
-    Count(usize),
-    Wrong,
-}
-
-// A field's number or bytes, and the index where the field ends: that of a space, or the line's length after the last field.
-#[derive(Clone, Copy)]
-pub enum Taken {
-    Value(u64, usize),
-    Wrong,
-}
-
-#[derive(Clone, Copy)]
-pub enum Filled {
-    Count(usize, usize),
-    Wrong,
-}
-
-// A line so far: its size, or one more than its buffer's where it is too long; whether the line is whole; and the index where the chunk goes on.
+// A line so far: its size, or one more than its buffer's where it is too long; and the index where the chunk goes on after the line's end, where the
+// chunk has it.
 #[derive(Clone, Copy)]
 pub struct Piece {
     pub size: usize,
-    pub next: usize,
-    pub whole: bool,
+    pub next: Option<usize>,
 }
 
 // What b stands for as a hex digit, and 16 where it is none.
@@ -49,65 +24,53 @@ pub fn digit(b: u8) -> u8
     ensures { result ≡ digit_of b }
 {
     match b {
-        48..=57 => b - 48,
-        97..=102 => b - 87,
+        b'0'..=b'9' => b - b'0',
+        b'a'..=b'f' => b - b'a' + 10,
         _ => 16,
     }
 }
 
-fn wide(b: u8) -> u64
-    ensures { result ≡ b }
-{
-    b as u64
-}
-
 // The number that the digits of n and the digit b stand for. The test comes before the product, which can pass 2^64.
-fn add_digit(n: u64, base: u64, b: u8) -> Number
+fn add_digit(n: u64, base: u64, b: u8) -> Option<u64>
     requires { 0 < base }
     ensures { result ≡ onward base n (b ∷ []) }
 {
-    let d = wide(digit(b));
+    let d = u64::from(digit(b));
     if base <= d {
-        return Number::Wrong;
+        return None;
     }
     if (18446744073709551615 - d) / base < n {
-        return Number::Wrong;
+        return None;
     }
-    Number::Value(n * base + d)
+    Some(n * base + d)
 }
 
-fn read_number(s: &[u8], base: u64) -> Number
+fn read_number(s: &[u8], base: u64) -> Option<u64>
     requires { 0 < base }
     ensures { result ≡ number_of base s.now }
 {
-    if s.len() == 0 {
-        return Number::Wrong;
+    if s.is_empty() {
+        return None;
     }
-    let mut n: u64 = 0;
-    let mut i = 0;
-    while i < s.len() {
-        let next = add_digit(n, base, s[i]);
-        let Number::Value(m) = next else {
-            return Number::Wrong;
-        };
-        n = m;
-        i += 1;
+    let mut n = 0;
+    for &b in s {
+        n = add_digit(n, base, b)?;
     }
-    Number::Value(n)
+    Some(n)
 }
 
-pub fn decimal(s: &[u8]) -> Number
+pub fn decimal(s: &[u8]) -> Option<u64>
     ensures { result ≡ decimal_of s.now }
 {
     read_number(s, 10)
 }
 
 // 16 hex digits, as the bits of an f64.
-pub fn hex16(s: &[u8]) -> Number
+pub fn hex16(s: &[u8]) -> Option<u64>
     ensures { result ≡ hex16_of s.now }
 {
     if s.len() != 16 {
-        return Number::Wrong;
+        return None;
     }
     read_number(s, 16)
 }
@@ -115,14 +78,7 @@ pub fn hex16(s: &[u8]) -> Number
 fn is_hex(s: &[u8]) -> bool
     ensures { result ≡ all (is_digit_byte 16) s.now }
 {
-    let mut i = 0;
-    while i < s.len() {
-        if 16 <= digit(s[i]) {
-            return false;
-        }
-        i += 1;
-    }
-    true
+    s.iter().all(|&b| digit(b) < 16)
 }
 
 // The byte of two hex digits.
@@ -138,50 +94,42 @@ fn write_pairs(s: &[u8], n: usize, out: &mut [u8])
     requires { (n + n ≡ length s.now) × (n ≤ length out.old) × (all (is_digit_byte 16) s.now ≡ true) }
     ensures { out.new ≡ placed out.old 0 (pairs s.now) }
 {
-    let mut i = 0;
-    while i < n {
+    for i in 0..n {
         out[i] = pair(s[i + i], s[i + i + 1]);
-        i += 1;
     }
 }
 
 fn is_pairs(s: &[u8]) -> bool
     ensures { result ≡ is_pairs s.now }
 {
-    if s.len() == 0 {
+    if s.is_empty() {
         return false;
     }
-    if s.len() % 2 != 0 {
-        return false;
-    }
-    is_hex(s)
+    s.len() % 2 == 0 && is_hex(s)
 }
 
 fn is_dash(s: &[u8]) -> bool
     ensures { result ≡ is_dash s.now }
 {
-    if s.len() != 1 {
-        return false;
-    }
-    s[0] == 45
+    s.len() == 1 && s[0] == b'-'
 }
 
 // Reads bytes in hex into the front of out. Where s is wrong or longer than out, out stays as it is.
-pub fn hex(s: &[u8], out: &mut [u8]) -> Bytes
+pub fn hex(s: &[u8], out: &mut [u8]) -> Option<usize>
     ensures { Decoded s.now out.old result out.new }
 {
     if is_dash(s) {
-        return Bytes::Count(0);
+        return Some(0);
     }
     if !is_pairs(s) {
-        return Bytes::Wrong;
+        return None;
     }
     let n = s.len() / 2;
     if out.len() < n {
-        return Bytes::Wrong;
+        return None;
     }
     write_pairs(s, n, out);
-    Bytes::Count(n)
+    Some(n)
 }
 
 // The index of the first b in s from index at on, or the length of s where there is none.
@@ -189,93 +137,64 @@ pub fn find(s: &[u8], at: usize, b: u8) -> usize
     requires { at ≤ length s.now }
     ensures { Found b s.now at result }
 {
-    let mut i = at;
-    while i < s.len() {
-        if s[i] == b {
-            return i;
-        }
-        i += 1;
+    match s[at..].iter().position(|&x| x == b) {
+        Some(i) => at + i,
+        None => s.len(),
     }
-    i
 }
 
-fn part(s: &[u8], a: usize, e: usize) -> &[u8]
-    requires { (a ≤ e) × (e ≤ length s.now) }
-    ensures { result.now ≡ take (e - a) (drop a s.now) }
-{
-    &s[a..e]
-}
-
-// The first n bytes of s, or all where it has fewer.
-pub fn front(s: &[u8], n: usize) -> &[u8]
+// The first n elements of s, or all where it has fewer.
+pub fn front<T>(s: &[T], n: usize) -> &[T]
     ensures { result.now ≡ take n s.now }
 {
-    if n <= s.len() {
-        return &s[..n];
-    }
-    s
+    &s[..n.min(s.len())]
 }
 
 // Whether the first field is the word w, which then ends at index w.len().
 pub fn has_word(s: &[u8], w: &[u8]) -> bool
     ensures { result ≡ has_word s.now w.now }
 {
-    let e = find(s, 0, 32);
-    stores::same_bytes(part(s, 0, e), w)
+    let e = find(s, 0, b' ');
+    stores::same_bytes(&s[..e], w)
 }
 
-fn with_end(n: Number, end: usize) -> Taken
-    ensures { result ≡ taken_of n end }
+// The field after the one that ends at index end, and the index where it ends itself: that of a space, or the line's length. There is none after the
+// line's last field.
+fn next_field(s: &[u8], end: usize) -> Option<(&[u8], usize)>
+    ensures { MatchOption result (length s.now ≤ end) (λ f. NextField s.now end f.0.now f.1) }
 {
-    match n {
-        Number::Value(v) => Taken::Value(v, end),
-        Number::Wrong => Taken::Wrong,
+    if s.len() <= end {
+        return None;
     }
+    let at = end + 1;
+    let e = find(s, at, b' ');
+    Some((&s[at..e], e))
 }
 
-// The functions .._after read the field after the one that ends at index end; there is none after the line's last.
-pub fn decimal_after(s: &[u8], end: usize) -> Taken
+// The functions .._after read the field after the one that ends at index end, and return what it says and the index where it ends.
+pub fn decimal_after(s: &[u8], end: usize) -> Option<(u64, usize)>
     ensures { result ≡ after decimal_of s.now end }
 {
-    if s.len() <= end {
-        return Taken::Wrong;
-    }
-    let at = end + 1;
-    let e = find(s, at, 32);
-    with_end(decimal(part(s, at, e)), e)
+    let (field, e) = next_field(s, end)?;
+    let n = decimal(field)?;
+    Some((n, e))
 }
 
-pub fn hex16_after(s: &[u8], end: usize) -> Taken
+pub fn hex16_after(s: &[u8], end: usize) -> Option<(u64, usize)>
     ensures { result ≡ after hex16_of s.now end }
 {
-    if s.len() <= end {
-        return Taken::Wrong;
-    }
-    let at = end + 1;
-    let e = find(s, at, 32);
-    with_end(hex16(part(s, at, e)), e)
+    let (field, e) = next_field(s, end)?;
+    let n = hex16(field)?;
+    Some((n, e))
 }
 
-fn bytes_end(b: Bytes, end: usize) -> Filled
-    ensures { result ≡ filled_of b end }
-{
-    match b {
-        Bytes::Count(n) => Filled::Count(n, end),
-        Bytes::Wrong => Filled::Wrong,
-    }
-}
-
-// Where the field is wrong or longer than out, out stays as it is.
-pub fn hex_after(s: &[u8], end: usize, out: &mut [u8]) -> Filled
+// How many bytes the field has, and where it ends. Where the field is wrong or longer than out, out stays as it is.
+pub fn hex_after(s: &[u8], end: usize, out: &mut [u8]) -> Option<(usize, usize)>
     ensures { Filling s.now end out.old result out.new }
 {
-    if s.len() <= end {
-        return Filled::Wrong;
-    }
-    let at = end + 1;
-    let e = find(s, at, 32);
-    let b = hex(part(s, at, e), out);
-    bytes_end(b, e)
+    let (field, e) = next_field(s, end)?;
+    let n = hex(field, out)?;
+    Some((n, e))
 }
 
 // Puts part after the n bytes of a line. A line that line does not hold stays out, and has the size line.len() + 1.
@@ -298,20 +217,10 @@ pub fn gather_line(chunk: &[u8], at: usize, line: &mut [u8], n: usize) -> Piece
     requires { (at ≤ length chunk.now) × (length line.old < 18446744073709551615) }
     ensures { Gathered chunk.now at line.old n result line.new }
 {
-    let e = find(chunk, at, 10);
-    let size = gather(line, n, part(chunk, at, e));
-    if e < chunk.len() {
-        return Piece {
-            size: size,
-            next: e + 1,
-            whole: true,
-        };
-    }
-    Piece {
-        size: size,
-        next: e,
-        whole: false,
-    }
+    let e = find(chunk, at, b'\n');
+    let size = gather(line, n, &chunk[at..e]);
+    let next = if e < chunk.len() { Some(e + 1) } else { None };
+    Piece { size, next }
 }
 
 // The functions put_.. write at index n of out, and return the index after what they wrote.
@@ -335,10 +244,7 @@ fn glyph(d: u8) -> u8
     requires { d < 16 }
     ensures { result ≡ glyph_of d }
 {
-    if d < 10 {
-        return d + 48;
-    }
-    d + 87
+    if d < 10 { b'0' + d } else { b'a' + (d - 10) }
 }
 
 // The two hex digits of b.

@@ -1,14 +1,34 @@
-use Rattle.text.proofs.Fields.{seeking_none, seeking_more, seeking_here, seeking_all}
+use native.Mathlib.Omega.{arith}
+use lib.Seq.{take_all}
+use Rattle.std.proofs.Common.{rules, tests, ◌≡◌, ◌∙◌, ◌-◌, ℕ, List, length, take, drop, length-drop}
+use Rattle.std.specs.List.{position}
+use Rattle.std.proofs.lemmas.Iterator.{YieldsList-from_slice}
+use Rattle.std.proofs.lemmas.Iterator.Search.{position_from_yields_List}
+use Rattle.text.specs.Fields.{is}
+use Rattle.text.proofs.Fields.{found_some, found_none}
 use Rattle.text.proofs.find.Goals as goal
 
-pub loop-i-init : goal.loop-i-init
-loop-i-init c = seeking_none _ _ _ c.requires
+-- the slice from an index on
+rest : (s : List ℕ) (at : ℕ) {r : List ℕ} → r ≡ take (length s - at) (drop at s) → r ≡ drop at s
+rest s at e = e ∙ take_all _ _ (omega (arith, length-drop at s))
 
-pub returns-then-s-i : goal.returns-then-s-i
-returns-then-s-i c = seeking_here c.loop-i.invariant c.loop-i-test.true c.if-s-i.true
+some : (c : goal.In-Some) → c.position.result ≡ position (is c.args.b) (drop c.args.at c.args.s.now)
+some c =
+    position_from_yields_List (is c.args.b) _ _ c.position.result c.position.ensures.ran
+    (YieldsList-from_slice (drop c.args.at c.args.s.now) (rest c.args.s.now c.args.at (search rules)))
+    (λ x b q k. search (rules, tests))
 
-pub loop-i-preserved : goal.loop-i-preserved
-loop-i-preserved c = seeking_more c.loop-i.invariant c.loop-i-test.true c.if-s-i.false
+none : (c : goal.In-None) → c.position.result ≡ position (is c.args.b) (drop c.args.at c.args.s.now)
+none c =
+    position_from_yields_List (is c.args.b) _ _ c.position.result c.position.ensures.ran
+    (YieldsList-from_slice (drop c.args.at c.args.s.now) (rest c.args.s.now c.args.at (search rules)))
+    (λ x b q k. search (rules, tests))
 
-pub returns : goal.returns
-returns c = seeking_all c.loop-i.invariant c.loop-i-test.false
+pub overflow_add-result : goal.overflow_add-result
+overflow_add-result c = omega (arith, (found_some c.args.b c.args.s.now c.args.at c.requires (some c) c.in-Some.i c.in-Some.is).within)
+
+pub returns-in-Some : goal.returns-in-Some
+returns-in-Some c = found_some _ _ _ c.requires (some c) _ c.in-Some.is
+
+pub returns-in-None : goal.returns-in-None
+returns-in-None c = found_none _ _ _ c.requires (none c) c.in-None.is

@@ -4,5 +4,5 @@ use Rattle.text.proofs.glyph.Goals as goal
 pub returns-then-d-lt10 : goal.returns-then-d-lt10
 returns-then-d-lt10 c = glyph_low _ c.if-d-lt10.true
 
-pub returns : goal.returns
-returns c = glyph_high _ c.if-d-lt10.false
+pub returns-else-d-lt10 : goal.returns-else-d-lt10
+returns-else-d-lt10 c = glyph_high _ c.if-d-lt10.false

@@ -1,14 +1,12 @@
-use Rattle.text.proofs.Pairs.{is_digit, no_digit, testing_none, testing_more, testing_stop, testing_all}
+use Rattle.std.proofs.Common.{rules, tests, ◌∙◌}
+use Rattle.std.proofs.lemmas.Iterator.{YieldsList-from_slice}
+use Rattle.std.proofs.lemmas.Iterator.Search.{all_from_yields_List}
+use Rattle.text.specs.Numbers.{is_digit_byte}
+use Rattle.text.proofs.Pairs.{all-list_all}
 use Rattle.text.proofs.is_hex.Goals as goal
 
-pub loop-i-init : goal.loop-i-init
-loop-i-init c = testing_none _ _
-
-pub returns-then-digit-ge16 : goal.returns-then-digit-ge16
-returns-then-digit-ge16 c = testing_stop c.loop-i.invariant c.loop-i-test.true (no_digit 16 _ c.digit.ensures c.if-digit-ge16.true)
-
-pub loop-i-preserved : goal.loop-i-preserved
-loop-i-preserved c = testing_more c.loop-i.invariant c.loop-i-test.true (is_digit 16 _ c.digit.ensures c.if-digit-ge16.false)
-
 pub returns : goal.returns
-returns c = testing_all c.loop-i.invariant c.loop-i-test.false
+unfolding is_digit_byte
+returns c =
+    all_from_yields_List (is_digit_byte 16) _ _ _ c.all.ensures.ran (YieldsList-from_slice c.args.s.now (search rules)) (λ x b q k. search (rules, tests))
+    ∙ all-list_all (is_digit_byte 16) c.args.s.now
