@@ -5,12 +5,12 @@ ghost use Rattle.std.specs.Prelude.{◌≡◌, true, false, ◌≤◌, ◌<◌, 
 ghost use Rattle.rules.specs.Calls.{gets_data};
 ghost use Rattle.numbers.specs.Seats.{ExactNumbers};
 ghost use Rattle.session.specs.Promise.{lent, Called};
-ghost use Rattle.delivery.specs.Turns.{frame_of};
+ghost use Rattle.delivery.specs.Turns.{frame_of, lent_frame};
 ghost use Rattle.receiving.specs.Checks.{Filled, Checked, Acknowledges, Acknowledging, Receiving, Taking, Anew, Terminal, Delivers};
 ghost use Rattle.draining.specs.Arrived.{Arrived};
 ghost use Rattle.receiving.specs.Calls.{returned};
 
-use delivery::Turn;
+use delivery::{Frame, Step, Turn};
 use draining::Ended;
 use peer_session::SessionState;
 use rules::{Answer, HostStatus, ReceiveMode, Refusal};
@@ -33,21 +33,16 @@ fn acks_full(s: SessionState, number: u64) -> bool
     requires { (ExactNumbers s.waiting) × (s.queue.count ≤ 256) }
     ensures { Filled number s result }
 {
-    let w = s.waiting;
-    let q = s.queue;
-    if w.count + q.count < SessionState::MAX_WAITING_AND_QUEUED {
+    if s.waiting.count + s.queue.count < SessionState::MAX_WAITING_AND_QUEUED {
         return false;
     }
-    if numbers::has(w, number) {
+    if numbers::has(s.waiting, number) {
         return false;
     }
-    if queue::find(q, number) {
+    if queue::find(s.queue, number) {
         return false;
     }
-    if s.remote < number {
-        return true;
-    }
-    s.released < number
+    s.remote < number || s.released < number
 }
 
 // 4; of a number above remote 5 and 6; 26.
@@ -58,9 +53,8 @@ fn check(s: SessionState, number: u64, len: usize) -> Verdict
     if s.policy.body < len {
         return Verdict::Fail(Refusal::BodyTooLong);
     }
-    let remote = s.remote;
-    if remote < number {
-        if s.policy.gap < number - (remote + 1) {
+    if s.remote < number {
+        if s.policy.gap < number - (s.remote + 1) {
             return Verdict::Fail(Refusal::GapTooWide);
         }
         if SessionState::LAST_REMOTE < number {
@@ -84,24 +78,19 @@ fn receive_again(s: SessionState, list: &mut [u64], number: u64) -> Ended
     requires { Acknowledging number s (length list.old) }
     ensures { Acknowledges number s list.old result list.new }
 {
-    let c = s.clock;
     if number <= s.released {
         events::emit(list, 0, 10, number, 0, 0);
-        let n = events::request(c, list, 1);
         return Ended {
             session: s,
-            events: n,
+            events: events::request(s.clock, list, 1),
             stop: None,
         };
     }
-    let w = s.waiting;
-    let more = numbers::put(w, number);
     let mut r = s;
-    r.waiting = more;
-    let n = events::request(c, list, 0);
+    r.waiting = numbers::put(s.waiting, number);
     Ended {
         session: r,
-        events: n,
+        events: events::request(s.clock, list, 0),
         stop: None,
     }
 }
@@ -110,14 +99,7 @@ fn receive_again(s: SessionState, list: &mut [u64], number: u64) -> Ended
 fn terminal(t: Turn, kind: u8) -> bool
     ensures { Terminal kind t result }
 {
-    let mode = t.mode;
-    match mode {
-        ReceiveMode::Raw => false,
-        ReceiveMode::Proposal => kind == 2,
-        ReceiveMode::Channel => false,
-        ReceiveMode::Rejection => false,
-        ReceiveMode::Retiring => false,
-    }
+    matches!(t.mode, ReceiveMode::Proposal) && kind == 2
 }
 
 // Whether data is delivered now.
@@ -143,28 +125,26 @@ fn take_now(
     delivery: &mut [u8],
     outbound: &mut [u8],
     queue: &mut [u8],
-    number: u64,
-    kind: u8,
-    body: &[u8],
+    f: Frame,
 ) -> Ended
-    requires { Taking true status t (frame_of number kind body.now) s list.old delivery.old outbound.old queue.old }
-    ensures { Anew status (frame_of number kind body.now) s list.old delivery.old outbound.old queue.old result list.new delivery.new outbound.new queue.new }
+    requires { Taking true status t (lent_frame f) s list.old delivery.old outbound.old queue.old }
+    ensures { Anew status (lent_frame f.entry) s list.old delivery.old outbound.old queue.old result list.new delivery.new outbound.new queue.new }
 {
-    let a = delivery::deliver(t, list, 0, delivery, 0, number, kind, body);
-    let turn = a.turn;
-    let w = s.waiting;
-    let stop = a.stop;
-    match stop {
-        Some(x) => draining::abandon(s, list, a.events, outbound, queue, turn, w, x),
-        None => {
-            let acks = numbers::put(w, number);
-            let q = s.queue;
-            let from = queue::up_to(q, number);
-            let c = turn.clock;
-            let n = events::request(c, list, a.events);
-            draining::carry(
-                s, turn, acks, from, status, list, n, delivery, a.at, outbound, queue,
-            )
+    let begun = Step {
+        turn: t,
+        events: 0,
+        at: 0,
+    };
+    match delivery::deliver(begun, list, delivery, f) {
+        Err(x) => draining::abandon(s, list, 0, outbound, queue, t, s.waiting, x),
+        Ok(done) => {
+            let acks = numbers::put(s.waiting, f.number);
+            let from = queue::up_to(s.queue, f.number);
+            let step = Step {
+                events: events::request(done.turn.clock, list, done.events),
+                ..done
+            };
+            draining::carry(s, step, acks, from, status, list, delivery, outbound, queue)
         }
     }
 }
@@ -178,33 +158,29 @@ fn enqueue(
     delivery: &mut [u8],
     outbound: &mut [u8],
     queue: &mut [u8],
-    number: u64,
-    kind: u8,
-    body: &[u8],
+    f: Frame,
 ) -> Ended
-    requires { Taking false status t (frame_of number kind body.now) s list.old delivery.old outbound.old queue.old }
-    ensures { Anew status (frame_of number kind body.now) s list.old delivery.old outbound.old queue.old result list.new delivery.new outbound.new queue.new }
+    requires { Taking false status t (lent_frame f) s list.old delivery.old outbound.old queue.old }
+    ensures { Anew status (lent_frame f.entry) s list.old delivery.old outbound.old queue.old result list.new delivery.new outbound.new queue.new }
 {
-    let q = s.queue;
-    let w = s.waiting;
-    let c = s.clock;
-    let held = queue::find(q, number);
-    if held {
-        let n = events::request(c, list, 0);
-        return draining::carry(s, t, w, 0, status, list, n, delivery, 0, outbound, queue);
-    }
-    if s.policy.messages < q.count + 1 {
-        return draining::fail(s, list, 0, queue, Refusal::QueueCount);
-    }
-    let used = queue::used(q);
-    if s.policy.bytes < used + body.len() {
-        return draining::fail(s, list, 0, queue, Refusal::QueueBytes);
-    }
-    let more = queue::insert(q, queue, number, kind, body);
     let mut r = s;
-    r.queue = more;
-    let n = events::request(c, list, 0);
-    draining::carry(r, t, w, 0, status, list, n, delivery, 0, outbound, queue)
+    if !queue::find(s.queue, f.number) {
+        if s.policy.messages < s.queue.count + 1 {
+            return draining::fail(s, list, 0, queue, Refusal::QueueCount);
+        }
+        if s.policy.bytes < queue::used(s.queue) + f.body.len() {
+            return draining::fail(s, list, 0, queue, Refusal::QueueBytes);
+        }
+        r.queue = queue::insert(s.queue, queue, f.number, f.kind, f.body);
+    }
+    let step = Step {
+        turn: t,
+        events: events::request(s.clock, list, 0),
+        at: 0,
+    };
+    draining::carry(
+        r, step, s.waiting, 0, status, list, delivery, outbound, queue,
+    )
 }
 
 fn receive_new(
@@ -214,41 +190,30 @@ fn receive_new(
     delivery: &mut [u8],
     outbound: &mut [u8],
     queue: &mut [u8],
-    number: u64,
-    kind: u8,
-    body: &[u8],
+    f: Frame,
 ) -> Ended
-    requires { Receiving (frame_of number kind body.now) s list.old delivery.old outbound.old queue.old }
-    ensures { Anew status (frame_of number kind body.now) s list.old delivery.old outbound.old queue.old result list.new delivery.new outbound.new queue.new }
+    requires { Receiving (lent_frame f) s list.old delivery.old outbound.old queue.old }
+    ensures { Anew status (lent_frame f.entry) s list.old delivery.old outbound.old queue.old result list.new delivery.new outbound.new queue.new }
 {
     let t = draining::turn_of(s);
-    if delivers(t, status, number, kind) {
-        return take_now(
-            s, t, status, list, delivery, outbound, queue, number, kind, body,
-        );
+    if delivers(t, status, f.number, f.kind) {
+        return take_now(s, t, status, list, delivery, outbound, queue, f);
     }
-    enqueue(
-        s, t, status, list, delivery, outbound, queue, number, kind, body,
-    )
+    enqueue(s, t, status, list, delivery, outbound, queue, f)
 }
 
 // What data answers, by the refusal that ended it.
 fn answered(e: Ended) -> Returned
     ensures { result ≡ returned e }
 {
-    let s = e.session;
-    let stop = e.stop;
-    match stop {
-        None => Returned {
-            session: s,
-            answer: Answer::Flag(true),
-            events: e.events,
-        },
-        Some(x) => Returned {
-            session: s,
-            answer: Answer::Refused(x),
-            events: e.events,
-        },
+    let answer = match e.stop {
+        None => Answer::Flag(true),
+        Some(x) => Answer::Refused(x),
+    };
+    Returned {
+        session: e.session,
+        answer,
+        events: e.events,
     }
 }
 
@@ -259,30 +224,16 @@ fn receive(
     outbound: &mut [u8],
     queue: &mut [u8],
     status: HostStatus,
-    number: u64,
-    kind: u8,
-    body: &[u8],
+    f: Frame,
 ) -> Returned
-    requires { (Arrived s list.old delivery.old outbound.old queue.old) × (kind ≤ 2) }
-    ensures { Called (gets_data status (frame_of number kind body.now)) s (lent list.old delivery.old outbound.old queue.old) result (lent list.new delivery.new outbound.new queue.new) }
+    requires { (Arrived s list.old delivery.old outbound.old queue.old) × (f.kind ≤ 2) }
+    ensures { Called (gets_data status (lent_frame f.entry)) s (lent list.old delivery.old outbound.old queue.old) result (lent list.new delivery.new outbound.new queue.new) }
 {
-    let verdict = check(s, number, body.len());
-    match verdict {
+    match check(s, f.number, f.body.len()) {
         Verdict::Refuse(x) => session::refused(s, x),
-        Verdict::Fail(x) => {
-            let e = draining::fail(s, list, 0, queue, x);
-            answered(e)
-        }
-        Verdict::Again => {
-            let e = receive_again(s, list, number);
-            answered(e)
-        }
-        Verdict::New => {
-            let e = receive_new(
-                s, status, list, delivery, outbound, queue, number, kind, body,
-            );
-            answered(e)
-        }
+        Verdict::Fail(x) => answered(draining::fail(s, list, 0, queue, x)),
+        Verdict::Again => answered(receive_again(s, list, f.number)),
+        Verdict::New => answered(receive_new(s, status, list, delivery, outbound, queue, f)),
     }
 }
 
@@ -321,7 +272,10 @@ pub fn receive_data(
     if SessionState::GENERATION_LIMIT <= s.clock.generation {
         return session::refused(s, Refusal::GenerationsExhausted);
     }
-    receive(
-        s, list, delivery, outbound, queue, status, number, kind as u8, body,
-    )
+    let f = Frame {
+        number,
+        kind: kind as u8,
+        body,
+    };
+    receive(s, list, delivery, outbound, queue, status, f)
 }
