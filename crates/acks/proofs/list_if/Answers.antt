@@ -1,8 +1,5 @@
 use Rattle.acks.proofs.Steps.{goes-listed, goes_not}
 use Rattle.acks.proofs.list_if.Goals as goal
 
-pub returns-then-goes : goal.returns-then-goes
-returns-then-goes c = goes-listed c.args.code c.args.number c.args.list.now c.args.n c.args.goes c.emit.new.list c.if-goes.true c.emit.ensures
-
 pub returns : goal.returns
 returns c = goes_not c.args.code c.args.number c.args.list.now c.args.n c.args.goes c.if-goes.false

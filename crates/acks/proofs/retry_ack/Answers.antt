@@ -5,8 +5,5 @@ use Rattle.acks.proofs.retry_ack.Goals as goal
 pub returns-then-retries_full : goal.returns-then-retries_full
 returns-then-retries_full c = λ l. lost_ack c.args.number c.args.s l (sym c.retries_full.ensures ∙ c.if-retries_full.true) c.refused.ensures
 
-pub put-more-requires : goal.put-more-requires
-put-more-requires c = (c.requires.few, c.requires.room (sym c.retries_full.ensures ∙ c.if-retries_full.false))
-
 pub returns : goal.returns
 returns c = λ l. kept_ack c.args.number c.args.s c.put-more.result l (sym c.retries_full.ensures ∙ c.if-retries_full.false) c.put-more.ensures

@@ -15,10 +15,3 @@ pub returns-in-Err : goal.returns-in-Err
 returns-in-Err c =
     turned (parts c.args.words.now c.args.halves.now c.args.bytes.now c.args.clock.now) c.args.list.now c.args.event c.args.time c.args.force c.in-Err.x (c.enters.ensures c.args.clock.now) c.in-Err.is c.refusal.ensures
 
-pub returns-in-Ok : goal.returns-in-Ok
-returns-in-Ok c =
-    let f = found-event (parts c.args.words.now c.args.halves.now c.args.bytes.now c.args.clock.now) _ c.args.event (c.enters.ensures c.args.clock.now) c.in-Ok.is in
-    subst
-    (λ (m : ℕ). Driven (parts c.args.words.now c.args.halves.now c.args.bytes.now c.args.clock.now) (parts c.args.words.now c.args.halves.now c.args.bytes.now c.goes.new.clock) c.goes.result
-    (λ s y. CalledWithList (connects m c.args.time c.args.force) s c.args.list.now y c.goes.new.list))
-    (sym f.1) c.goes.ensures

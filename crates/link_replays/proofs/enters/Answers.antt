@@ -20,14 +20,3 @@ returns-then-not-sound c = λ t.
     unsound (parts c.args.words.now c.args.halves.now c.args.bytes.now t) c.if-list-lt-EVENT_WORDS.false
     (first c.in_ok-read.read c.in_ok-read.ensures) (last c.in_ok-read.read c.in_ok-read.ensures) (sym (c.sound.ensures t).is ∙ c.if-not-sound.true)
 
-pub returns : goal.returns
-returns c = λ t. (
-  record {
-    sound = sym (c.sound.ensures t).is ∙ c.if-not-sound.false;
-    full = (c.sound.ensures t).full;
-    list = c.if-list-lt-EVENT_WORDS.false;
-    first = first c.in_ok-read.read c.in_ok-read.ensures;
-    last = last c.in_ok-read.read c.in_ok-read.ensures;
-  },
-  c.in_ok-read.ensures,
-)

@@ -13,10 +13,6 @@ returns-then-retries_full c = λ h b l fit.
     ack_lost c.args.words.now h b l c.args.number 1 c.args.accepted fit (λ e. omega (arith, e)) c.if-accepted.false
     (sym c.if-retries_full.true ∙ c.retries_full.ensures) c.refusal.ensures
 
-pub put-requires : goal.put-requires
-put-requires c =
-    (c.requires.0, c.requires.1.room (sym c.retries_full.ensures ∙ c.if-retries_full.false))
-
 pub returns : goal.returns
 returns c = λ h b l fit.
     ack_kept c.args.words.now h b l c.args.number 1 c.args.accepted fit (λ e. omega (arith, e)) _ c.put.ensures.only c.plain-2.ensures

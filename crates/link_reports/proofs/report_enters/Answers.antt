@@ -17,13 +17,3 @@ returns-in_err-kind c = λ t.
 pub returns-then-not-sound : goal.returns-then-not-sound
 returns-then-not-sound c = λ t. unsound _ c.if-list-lt-EVENT_WORDS.false (code-small c.in_ok-kind.kind c.in_ok-kind.ensures) (sym (c.sound.ensures t).is ∙ c.if-not-sound.true)
 
-pub returns : goal.returns
-returns c = λ t. (
-  record {
-    sound = sym (c.sound.ensures t).is ∙ c.if-not-sound.false;
-    full = (c.sound.ensures t).full;
-    list = c.if-list-lt-EVENT_WORDS.false;
-    code = code-small c.in_ok-kind.kind c.in_ok-kind.ensures;
-  },
-  c.in_ok-kind.ensures,
-)

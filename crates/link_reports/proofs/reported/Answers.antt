@@ -8,11 +8,6 @@ pub data_sent-requires : goal.data_sent-requires
 data_sent-requires c =
     fit_as c.args.words.now c.args.halves.now c.args.bytes.now c.args.list.now c.args.number (frame_kind_number c.args.kind) 0 (omega arith) c.requires
 
-pub returns-in-Data : goal.returns-in-Data
-returns-in-Data c =
-    reported_as c.args.words.now c.args.halves.now c.args.bytes.now c.args.list.now c.args.number (ap frame_kind_number c.in-Data.is) c.if-accepted.true
-    c.data_sent.ensures
-
 pub returns-in-Data-2 : goal.returns-in-Data-2
 returns-in-Data-2 c =
     unsent c.args.words.now c.args.halves.now c.args.bytes.now c.args.list.now c.args.number (frame_kind_number c.args.kind) c.args.accepted c.requires
