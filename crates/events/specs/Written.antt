@@ -1,5 +1,5 @@
 -- The event list and the delivery buffer while a call writes them, and what a call under way comes to with them. Assumes nothing.
-use Rattle.std.specs.Prelude.{ℕ, ◌+◌, ◌*◌, ◌≤◌, ◌≡◌, List, [], ◌∷◌, length, ltb, if◌then◌else◌, Option, None, Some}
+use Rattle.std.specs.Prelude.{ℕ, ◌+◌, ◌*◌, ◌≤◌, ◌≡◌, List, [], ◌∷◌, length, ltb, if◌then◌else◌, Option, None, Some, Result, Ok, Err}
 use Rattle.stores.specs.Placed.{placed}
 use Rattle.rules.specs.declared.Clock.{Clock}
 use Rattle.rules.specs.Lists.{Bytes, packed}
@@ -67,3 +67,15 @@ ends x s b = record { stop = x; state = s; books = b }
 abbrev pub ended : Option Refusal → State → Progress
 ended None s = goes s []
 ended (Some r) s = stops r s []
+
+-- ---- a Rust `Result` whose error is a refusal
+
+-- the refusal that it ends by, if it does
+abbrev pub stopped_by : {A : Type 0} → Result A Refusal → Option Refusal
+stopped_by (Ok x) = None
+stopped_by (Err r) = Some r
+
+-- what it comes to from x, which a refusal leaves
+abbrev pub reached : {A : Type 0} → A → Result A Refusal → A
+reached x (Ok y) = y
+reached x (Err r) = x
