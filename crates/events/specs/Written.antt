@@ -68,14 +68,14 @@ abbrev pub ended : Option Refusal → State → Progress
 ended None s = goes s []
 ended (Some r) s = stops r s []
 
--- ---- what a step comes to that changes nothing where it is refused
+-- ---- a Rust `Result` whose error is a refusal
 
--- the refusal that stopped it
+-- the refusal that it ends by, if it does
 abbrev pub stopped_by : {A : Type 0} → Result A Refusal → Option Refusal
 stopped_by (Ok x) = None
 stopped_by (Err r) = Some r
 
--- what it reached, from x
+-- what it comes to from x, which a refusal leaves
 abbrev pub reached : {A : Type 0} → A → Result A Refusal → A
 reached x (Ok y) = y
 reached x (Err r) = x

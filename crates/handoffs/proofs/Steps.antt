@@ -19,7 +19,7 @@ use Rattle.rules.specs.Handoff.{Command, handing_off, channel_command}
 use Rattle.rules.specs.Sending.{allocate}
 use Rattle.stores.specs.Placed.{placed}
 use Rattle.stores.proofs.Laws.{length-placed}
-use Rattle.std.specs.Prelude.{None, Some}
+use Rattle.std.specs.Prelude.{Ok, Err}
 use Rattle.events.specs.Written.{asked}
 use Rattle.events.proofs.Laws.{listed-none}
 use Rattle.outbox.specs.View.{ExactOutbox}
@@ -28,9 +28,8 @@ use Rattle.peer_session.specs.declared.SessionState.{SessionState}
 use Rattle.peer_session.specs.View.{handoff_of, state_of, Exact}
 use Rattle.session.specs.declared.Returned.{Returned}
 use Rattle.session.specs.Promise.{Turned}
-use Rattle.setup.specs.declared.Joined.{Joined}
 use Rattle.setup.specs.Steps.{Joins, Asks, staged, Comes}
-use Rattle.setup.proofs.Steps.{stays-packed, turned_is, joined, stopped}
+use Rattle.setup.proofs.Steps.{stays-packed, turned_is, stopped}
 use Rattle.handoffs.specs.Commands.{starting_in, commanding, HandsOver}
 
 -- ---- a new handoff
@@ -131,30 +130,29 @@ handing h s =
       reject = s.reject;
     }
 
-module _ (b : Bool) (c : Command) (s : SessionState) (l : List ℕ) (o : Bytes) (a : Joined) (o' : Bytes) (j : Joins c.body s.stage.disposition s o a o')
-    (absent : s.handoff.present ≡ false) where
-  sending : (q : Bytes) {p : Progress} → allocate c.body s.stage.disposition (state_of s o q) ≡ p
-      → commanding b (some c) (state_of s o q) ≡ answers Done (p then handing_off c s.outbox.next then request)
-  unfolding channel_command
-  sending q e =
-      ap (by_handoff b (some c) (state_of s o q)) (is-absent s.handoff absent)
-      ∙ ap (λ (p : Progress). answers Done (p then handing_off c s.outbox.next then request)) e
+sending : (b : Bool) (c : Command) (s : SessionState) (o q : Bytes) → s.handoff.present ≡ false → {p : Progress} → allocate c.body s.stage.disposition (state_of s o q) ≡ p
+    → commanding b (some c) (state_of s o q) ≡ answers Done (p then handing_off c s.outbox.next then request)
+unfolding channel_command
+sending b c s o q absent e =
+    ap (by_handoff b (some c) (state_of s o q)) (is-absent s.handoff absent)
+    ∙ ap (λ (p : Progress). answers Done (p then handing_off c s.outbox.next then request)) e
 
-  pub hand_stopped : {r : Returned} (x : Refusal) → a.stop ≡ Some x → Turned a.session x r → Comes (commanding b (some c)) s l o r l o'
-  hand_stopped x e t = stopped j e t (λ q u h. sending q h)
+module _ (b : Bool) (c : Command) {s : SessionState} {l : List ℕ} {o o' : Bytes} (absent : s.handoff.present ≡ false) where
+  pub hand_stopped : {x : Refusal} → Joins c.body s.stage.disposition s o (Err x) o' → {r : Returned} → Turned s x r → Comes (commanding b (some c)) s l o r l o'
+  hand_stopped j t = stopped j t (λ q u h. sending b c s o q absent h)
 
-  pub handed_off : {h : TerminalHandoff} {r : Returned} {l' : List ℕ} → a.stop ≡ None → HandsOver c.id s.outbox.next c.body h
-      → Asks (handing h a.session) l r l' → Comes (commanding b (some c)) s l o r l' o'
+  pub handed_off : {a : SessionState} → Joins c.body s.stage.disposition s o (Ok a) o' → {h : TerminalHandoff} → HandsOver c.id s.outbox.next c.body h
+      → {r : Returned} {l' : List ℕ} → Asks (handing h a) l r l' → Comes (commanding b (some c)) s l o r l' o'
   unfolding request
-  handed_off {h} e w k =
+  handed_off {a} j w k =
       rw k.is
       (record {
-        shown = asked a.session.clock;
+        shown = asked a.clock;
         does = λ q.
-            sending q (joined j None e q)
-            ∙ ap (λ (z : Option R.Handoff). outcome (handoff_is z (state_of a.session o' q)) Done (asked a.session.clock)) (sym w.is);
+            sending b c s o q absent (j.does q)
+            ∙ ap (λ (z : Option R.Handoff). outcome (handoff_is z (state_of a o' q)) Done (asked a.clock)) (sym w.is);
         exact = λ size ex.
-            let x : Exact a.session (length o') size = j.exact size ex in
+            let x : Exact a (length o') size = j.exact size ex in
             record {
               outbox = x.outbox;
               queued = x.queued;

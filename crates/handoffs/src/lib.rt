@@ -98,16 +98,13 @@ fn hand_off(
     ensures { (restoring : Bool) → Comes (commanding restoring (some (record { id = id; body = body.now }))) s list.old outbound.old result list.new outbound.new }
 {
     let number = s.outbox.next;
-    let a = setup::join(s, outbound, s.stage.disposition, body);
-    let mut r = a.session;
-    let stop = a.stop;
-    match stop {
-        Some(x) => session::refused(r, x),
-        None => {
-            let h = handed(id, number, body);
-            r.handoff = h;
+    match setup::join(s, outbound, s.stage.disposition, body) {
+        Ok(joined) => {
+            let mut r = joined;
+            r.handoff = handed(id, number, body);
             setup::done(r, list)
         }
+        Err(x) => session::refused(s, x),
     }
 }
 

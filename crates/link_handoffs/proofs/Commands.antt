@@ -1,7 +1,7 @@
 -- A command on the parts of a session: its tests, and the call. Assumes nothing.
-use Rattle.std.specs.Prelude.{if◌then◌else◌, Option, None, Some}
+use Rattle.std.specs.Prelude.{if◌then◌else◌, Err}
 use Prim.Native.Nat.{ℕ, ◌≤◌, ◌<◌}
-use mathlib.Core.Path.{◌≡◌, refl, sym, ◌∙◌, subst}
+use mathlib.Core.Path.{◌≡◌, refl, sym, ◌∙◌}
 use mathlib.Core.Bool.{Bool, true, false, true≢false}
 use mathlib.Core.List.{List}
 use mathlib.Core.Option.{Option}
@@ -29,7 +29,7 @@ use Rattle.parts.specs.Driven.{Driven}
 use Rattle.parts.proofs.Drives.{refuses}
 use Rattle.link_sound.proofs.Parts.{usable}
 use Rattle.link_setup.proofs.Stages.{long-bytes}
-use Rattle.link_handoffs.specs.Commands.{Commanding, NotCommanding, Found, Enters, Starts, ComesIn, HoldingIn}
+use Rattle.link_handoffs.specs.Commands.{Commanding, NotCommanding, Enters, Starts, ComesIn, HoldingIn}
 use Rattle.link_handoffs.proofs.Steps.{started, still_checked, still_low}
 
 -- ---- the tests
@@ -81,19 +81,12 @@ module _ (w h b : List ℕ) (t : Float) {n m k : ℕ} (ln : 4096 ≤ n) (lm : 65
     unfolding opened_of
     may_command e = (record { checked = c; list = ln; outbound = lm; low = low }, e)
 
--- what they found, by their stop
-module _ (w h b : List ℕ) (t : Float) {n m k : ℕ} {stop : Option Refusal} (f : Enters w h b n m k stop) where
-  pub passed : stop ≡ None → Commanding (parts w h b t) n m × (k ≤ 4096)
-  passed e = subst (λ (s : Option Refusal). Found (parts w h b t) n m k s) e (f t)
-
-  away : (x : Refusal) → stop ≡ Some x → NotCommanding (parts w h b t) n m k x
-  away x e = subst (λ (s : Option Refusal). Found (parts w h b t) n m k s) e (f t)
-
-pub turned : (w h b : List ℕ) (t : Float) (l : List ℕ) (o : Bytes) (restoring present : Bool) (id : ℕ) (body : Bytes) {k : ℕ} → k ≡ (if present then length body else 0) → {stop : Option Refusal} (x : Refusal)
-    → Enters w h b (length l) (length o) k stop → stop ≡ Some x → {y : LinkAnswer} → y ≡ answer_of (Refused x) 0
+-- what they refuse
+pub turned : (w h b : List ℕ) (t : Float) (l : List ℕ) (o : Bytes) (restoring present : Bool) (id : ℕ) (body : Bytes) {k : ℕ} → k ≡ (if present then length body else 0) → {x : Refusal}
+    → Enters w h b (length l) (length o) k (Err x) → {y : LinkAnswer} → y ≡ answer_of (Refused x) 0
     → Driven (parts w h b t) (parts w h b t) y (λ s r. CalledWithOutbound (commands restoring (command_of present id body)) s l o r l o)
-turned w h b t l o restoring present id body ek x f e z =
-    refuses (parts w h b t) x z (λ r u d q lq. (away w h b t f x e).call restoring present id body ek l o d q refl refl lq r u)
+turned w h b t l o restoring present id body ek {x} f z =
+    refuses (parts w h b t) x z (λ r u d q lq. (f t).call restoring present id body ek l o d q refl refl lq r u)
 
 -- ---- past them
 

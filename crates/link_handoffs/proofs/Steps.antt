@@ -16,14 +16,13 @@ use Rattle.rules.specs.Lists.{Bytes}
 use Rattle.rules.specs.State as R
 use Rattle.rules.specs.Progress.{Outcome}
 use Rattle.rules.specs.Handoff.{Command}
-use Rattle.std.specs.Prelude.{Option, None, Some}
+use Rattle.std.specs.Prelude.{Ok, Err}
 use Rattle.events.specs.Written.{Listed, asked}
 use Rattle.outbox.specs.View.{ExactOutbox}
 use Rattle.peer_session.specs.declared.SessionState.{SessionState}
 use Rattle.peer_session.specs.Sound.{sound_of, Checked}
 use Rattle.session.specs.declared.Returned.{Returned}
 use Rattle.session.specs.Promise.{Turned}
-use Rattle.setup.specs.declared.Joined.{Joined}
 use Rattle.setup.specs.Steps.{Asks, staged, Comes}
 use Rattle.handoffs.specs.Commands.{starting_in, commanding, HandsOver}
 use Rattle.handoffs.proofs.Steps as Plain
@@ -189,14 +188,14 @@ module _ (w h b : List ℕ) (t : Float) (l : List ℕ) (o body : Bytes) (id : �
   unfolding opened_of
   absent = none-there
 
-  pub stopped : {stop : Option Refusal} {w' h' b' : List ℕ} {o' : Bytes} (x : Refusal) → AllocatesIn body w h b o stop w' h' b' o' → stop ≡ Some x
-      → {y : LinkAnswer} → y ≡ answer_of (Refused x) 0 → (restoring : Bool) → ComesIn (commanding restoring (some c)) (parts w h b t) (parts w' h' b' t) l o y l o'
-  stopped {o' = o'} x a e {y} f restoring =
-      subst (λ (g : Float → Parts). ComesIn (commanding restoring (some c)) (parts w h b t) (g t) l o y l o') (sym (a.kept x e))
+  pub stopped : {w' h' b' : List ℕ} {o' : Bytes} {x : Refusal} → AllocatesIn body w h b o (Err x) w' h' b' o' → {y : LinkAnswer} → y ≡ answer_of (Refused x) 0
+      → (restoring : Bool) → ComesIn (commanding restoring (some c)) (parts w h b t) (parts w' h' b' t) l o y l o'
+  stopped {o' = o'} {x = x} a {y} f restoring =
+      subst (λ (g : Float → Parts). ComesIn (commanding restoring (some c)) (parts w h b t) (g t) l o y l o') (sym (a.kept x refl))
       (record {
         returned = record { session = s; answer = Refused x; events = 0 };
         comes =
-            Plain.hand_stopped restoring c s l o (record { session = s; stop = Some x }) o' (joins_not w h b t k s.stage.disposition ready.outbound x a e) absent x refl
+            Plain.hand_stopped restoring c absent (joins_not w h b t k s.stage.disposition a)
             (record { session = refl; answer = refl; events = refl });
         leaves = refl;
         answers = f;
@@ -215,25 +214,20 @@ module _ (w h b : List ℕ) (t : Float) (l : List ℕ) (o body : Bytes) (id : �
       subst (λ (n : ℕ). HandsOver id n body (handoff_in w₂ b₂)) next_in (record { is = g.handed.is; full = g.handed.full; size = g.handed.size })
 
   module _ (lh : length h ≡ 772) where
-    goes : {w₁ h₁ b₁ : List ℕ} {o' : Bytes} (a : AllocatesIn body w h b o None w₁ h₁ b₁ o') → {w₂ b₂ : List ℕ} → HandedIn written body w₁ b₁ w₂ b₂
+    pub goes : {w₁ h₁ b₁ : List ℕ} {o' : Bytes} (a : AllocatesIn body w h b o (Ok tt) w₁ h₁ b₁ o') → {w₂ b₂ : List ℕ} → HandedIn written body w₁ b₁ w₂ b₂
         → {y : LinkAnswer} {l' : List ℕ} → AsksIn (clock_in (raised h h₁) t) l y l' → (restoring : Bool)
         → ComesIn (commanding restoring (some c)) (parts w h b t) (parts w₂ (raised h h₁) b₂ t) l o y l' o'
-    goes {w₁} {h₁} {b₁} {o'} a {w₂} {b₂} g {y} {l'} q restoring =
+    goes {w₁} {h₁} {b₁} a {w₂} {b₂} g {l' = l'} q restoring =
         let lw : 1296 ≤ length w = long-words w h b t k.full in
         let lb : 4936 ≤ length b = long-bytes w h b t k.full in
-        let j : Joined = record { session = staged s.stage.disposition s.stage.setup (grown w h b t k lh a); stop = None } in
+        let joined : SessionState = staged s.stage.disposition s.stage.setup (grown w h b t k lh a) in
         record {
-          returned = record { session = handing (handoff_in w₂ b₂) j.session; answer = Done; events = q.events };
+          returned = record { session = handing (handoff_in w₂ b₂) joined; answer = Done; events = q.events };
           comes =
-              Plain.handed_off restoring c s l o j o' (joins w h b t k lh a s.stage.disposition ready.outbound) absent refl (hands_over g)
+              Plain.handed_off restoring c absent (joins w h b t k lh a s.stage.disposition) (hands_over g)
               (record { is = refl; listed = subst (λ (x : Clock). Listed (asked x) l 0 l' q.events) (clock-raised w h b t lw lb lh a) q.listed });
           leaves =
               handed-leaves w₁ (raised h h₁) b₁ t (omega (arith, a.words.size)) (omega (arith, a.bytes.size)) g.words g.bytes
               ∙ ap (handing (handoff_in w₂ b₂)) (left w h b t lw lb lh a);
           answers = q.answers;
         }
-
-    pub went : {stop : Option Refusal} {w₁ h₁ b₁ : List ℕ} {o' : Bytes} → AllocatesIn body w h b o stop w₁ h₁ b₁ o' → stop ≡ None → {w₂ b₂ : List ℕ} → HandedIn written body w₁ b₁ w₂ b₂
-        → {y : LinkAnswer} {l' : List ℕ} → AsksIn (clock_in (raised h h₁) t) l y l' → (restoring : Bool)
-        → ComesIn (commanding restoring (some c)) (parts w h b t) (parts w₂ (raised h h₁) b₂ t) l o y l' o'
-    went {w₁ = w₁} {h₁ = h₁} {b₁ = b₁} {o' = o'} a e g q restoring = goes (subst (λ (x : Option Refusal). AllocatesIn body w h b o x w₁ h₁ b₁ o') e a) g q restoring

@@ -1,5 +1,5 @@
 -- The steps of a command on the parts of a session. Assumes nothing.
-use Rattle.std.specs.Prelude.{ℕ, ◌≤◌, ◌<◌, ◌≡◌, Bool, true, false, List, Float, length, if◌then◌else◌, Option, None, Some}
+use Rattle.std.specs.Prelude.{ℕ, ◌≤◌, ◌<◌, ◌≡◌, Bool, true, false, List, Float, length, if◌then◌else◌, Result, Ok, Err}
 use Rattle.rules.specs.declared.Clock.{Clock}
 use Rattle.rules.specs.declared.Refusal.{Refusal}
 use Rattle.rules.specs.declared.Answer.TheVariants.{Done}
@@ -34,11 +34,11 @@ pub record NotCommanding (p : Parts) (n m k : ℕ) (x : Refusal) : Type 0 where
       → 32768 ≤ length q → (r : Returned) → Turned (opened_of p) x r
       → Called (commands restoring (command_of present id body)) (opened_of p) (lent l d o q) r (lent l d o q)
 
-abbrev pub Found : Parts → ℕ → ℕ → ℕ → Option Refusal → Type 0
-Found p n m k None = Commanding p n m × (k ≤ 4096)
-Found p n m k (Some x) = NotCommanding p n m k x
+abbrev pub Found : Parts → ℕ → ℕ → ℕ → Result (Unit {0}) Refusal → Type 0
+Found p n m k (Ok tt) = Commanding p n m × (k ≤ 4096)
+Found p n m k (Err x) = NotCommanding p n m k x
 
-abbrev pub Enters : List ℕ → List ℕ → List ℕ → ℕ → ℕ → ℕ → Option Refusal → Type 0
+abbrev pub Enters : List ℕ → List ℕ → List ℕ → ℕ → ℕ → ℕ → Result (Unit {0}) Refusal → Type 0
 Enters w h b n m k r = (t : Float) → Found (parts w h b t) n m k r
 
 -- ---- setup started, where the command restores

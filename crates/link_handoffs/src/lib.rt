@@ -27,25 +27,25 @@ fn enters(
     list: usize,
     outbound: usize,
     size: usize,
-) -> Option<Refusal>
+) -> Result<(), Refusal>
     ensures { Enters words.now halves.now bytes.now list outbound size result }
 {
     if list < SessionState::EVENT_WORDS {
-        return Some(Refusal::ShortBuffer);
+        return Err(Refusal::ShortBuffer);
     }
     if outbound < SessionState::OUTBOUND_BYTES {
-        return Some(Refusal::ShortBuffer);
+        return Err(Refusal::ShortBuffer);
     }
     if !link_sound::sound(words, halves, bytes) {
-        return Some(Refusal::BadRecord);
+        return Err(Refusal::BadRecord);
     }
     if SessionState::GENERATION_LIMIT <= halves[parts::GENERATION] {
-        return Some(Refusal::GenerationsExhausted);
+        return Err(Refusal::GenerationsExhausted);
     }
     if SessionState::MAX_HANDOFF < size {
-        return Some(Refusal::HandoffTooLong);
+        return Err(Refusal::HandoffTooLong);
     }
-    None
+    Ok(())
 }
 
 // A restoring command leaves setup started, also where it is refused.
@@ -182,10 +182,8 @@ fn hand_off(
     parts::full_halves(halves);
     let number = words[parts::NEXT];
     let generation = halves[parts::GENERATION];
-    let stop = link_sending::allocate(words, halves, bytes, outbound, body);
-    match stop {
-        Some(x) => link_codes::refusal(x),
-        None => {
+    match link_sending::allocate(words, halves, bytes, outbound, body) {
+        Ok(()) => {
             halves[parts::GENERATION] = generation + 1;
             let given = Handoff {
                 present: true,
@@ -197,6 +195,7 @@ fn hand_off(
             link_restores::hand(words, bytes, given, body);
             done(halves, clock, list)
         }
+        Err(x) => link_codes::refusal(x),
     }
 }
 
@@ -270,15 +269,14 @@ pub fn command(
     ensures { Driven (parts words.old halves.old bytes.old clock.now) (parts words.new halves.new bytes.new clock.now) result (λ s y. CalledWithOutbound (commands restoring (command_of present id body.now)) s list.old outbound.old y list.new outbound.new) }
 {
     let size = peer_session::handoff_length(present, body.len());
-    let stop = enters(words, halves, bytes, list.len(), outbound.len(), size);
-    match stop {
-        Some(x) => link_codes::refusal(x),
-        None => {
+    match enters(words, halves, bytes, list.len(), outbound.len(), size) {
+        Ok(()) => {
             parts::full_halves(halves);
             starting(halves, bytes, restoring);
             goes(
                 words, halves, bytes, clock, list, outbound, restoring, present, id, body,
             )
         }
+        Err(x) => link_codes::refusal(x),
     }
 }

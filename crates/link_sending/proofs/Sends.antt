@@ -13,7 +13,7 @@ use Rattle.rules.specs.declared.Refusal.TheVariants.{ShortBuffer, BadRecord, Gen
 use Rattle.rules.specs.declared.Clock.{Clock}
 use Rattle.rules.specs.Lists.{Bytes, total}
 use Rattle.rules.specs.Calls.{sends}
-use Rattle.std.specs.Prelude.{Option, None, Some}
+use Rattle.std.specs.Prelude.{Ok, Err}
 use Rattle.outbox.specs.View.{len_u, end_u, ExactOutbox}
 use Rattle.peer_session.specs.Allocates.{Allocates}
 use Rattle.events.specs.Written.{Listed, asked}
@@ -32,7 +32,7 @@ use Rattle.parts.proofs.After.{Kept, other, after, agree_all}
 use Rattle.parts.proofs.Drives.{changes, refuses}
 use Rattle.link_outbox.specs.Steps.{Joins}
 use Rattle.link_outbox.proofs.Records.{past_same}
-use Rattle.link_sending.specs.Sends.{Ready, Turns, Found, Enters, AllocatesIn}
+use Rattle.link_sending.specs.Sends.{Ready, Turns, AllocatesIn}
 
 -- ---- a message joined and the generation is raised: the session that the parts are then
 
@@ -40,7 +40,7 @@ use Rattle.link_sending.specs.Sends.{Ready, Turns, Found, Enters, AllocatesIn}
 abbrev pub raised : List ℕ → List ℕ → List ℕ
 raised h h' = set h' 768 (at h 768 + 1)
 
-module _ (w h b : List ℕ) (t : Float) {o body : Bytes} (lw : 1296 ≤ length w) (lb : 4936 ≤ length b) (lh : length h ≡ 772) {w' h' b' : List ℕ} {o' : Bytes} (a : AllocatesIn body w h b o None w' h' b' o') where
+module _ (w h b : List ℕ) (t : Float) {o body : Bytes} (lw : 1296 ≤ length w) (lb : 4936 ≤ length b) (lh : length h ≡ 772) {w' h' b' : List ℕ} {o' : Bytes} (a : AllocatesIn body w h b o (Ok tt) w' h' b' o') where
   agrees : (c d : ℕ) → 512 ≤ c → (c ≤ 768 → 768 < d → ⊥) → Agree c d h (raised h h')
   agrees c d k out = agree_then (agree_past c d k a.halves) (agree_set h' 768 (at h 768 + 1) c d out)
 
@@ -87,38 +87,31 @@ module _ (w h b : List ℕ) (t : Float) (l : List ℕ) (o body : Bytes) (ready :
   unfolding opened_of
   lb = omega (arith, simp (length-take, length-drop) at ready.full.reject)
 
-  module _ (lh : length h ≡ 772) {w' h' b' : List ℕ} {o' : Bytes} (a : AllocatesIn body w h b o None w' h' b' o') where
-    go : (l' : List ℕ) (n : ℕ) → Listed (asked (clock_in (raised h h') t)) l 0 l' n → {y : LinkAnswer} → y ≡ answer_of (Number (at w 0)) n
-        → Driven (parts w h b t) (parts w' (raised h h') b' t) y (λ s r. CalledWithOutbound (sends body) s l o r l' o')
-    unfolding opened_of
-    go l' n li e =
-        changes (parts w h b t) ready.sound (parts w' (raised h h') b' t) _ (left w h b t lw lb lh a) (Number (at w 0)) n e
-        (λ d q lq. S.went (opened_of (parts w h b t)) l o body d q ready.list ready.outbound ready.sound ready.full lq ready.low (record { outbox = outbox_in w' h' b'; stop = None }) o' a.allocates l' n refl (subst (λ (k : Clock). Listed (asked k) l 0 l' n) (clock-raised w h b t lw lb lh a) li))
-
-  pub went : (lh : length h ≡ 772) {stop : Option Refusal} {w' h' b' : List ℕ} {o' : Bytes} → AllocatesIn body w h b o stop w' h' b' o' → stop ≡ None → (k : Clock)
-      → k ≡ clock_in (set h' 768 (at h 768 + 1)) t → (l' : List ℕ) (n : ℕ) → Listed (asked k) l 0 l' n → {y : LinkAnswer} → y ≡ answer_of (Number (at w 0)) n
-      → Driven (parts w h b t) (parts w' (set h' 768 (at h 768 + 1)) b' t) y (λ s r. CalledWithOutbound (sends body) s l o r l' o')
-  went lh {w' = w'} {h' = h'} {b' = b'} {o' = o'} a e k ek l' n li f =
-      go lh (subst (λ (s : Option Refusal). AllocatesIn body w h b o s w' h' b' o') e a) l' n (subst (λ (c : Clock). Listed (asked c) l 0 l' n) ek li) f
+  pub went : length h ≡ 772 → {w' h' b' : List ℕ} {o' : Bytes} → AllocatesIn body w h b o (Ok tt) w' h' b' o' → {k : Clock} → k ≡ clock_in (raised h h') t
+      → {l' : List ℕ} {n : ℕ} → Listed (asked k) l 0 l' n → {y : LinkAnswer} → y ≡ answer_of (Number (at w 0)) n
+      → Driven (parts w h b t) (parts w' (raised h h') b' t) y (λ s r. CalledWithOutbound (sends body) s l o r l' o')
+  unfolding opened_of
+  went lh {w'} {h'} {b'} a ek {l'} {n} li f =
+      changes (parts w h b t) ready.sound (parts w' (raised h h') b' t) _ (left w h b t lw lb lh a) (Number (at w 0)) n f
+      (λ d q lq. S.went (opened_of (parts w h b t)) l o body d q ready.list ready.outbound ready.sound ready.full lq ready.low a.allocates (subst (λ (c : Clock). Listed (asked c) l 0 l' n) (ek ∙ clock-raised w h b t lw lb lh a) li))
 
   -- a refusal, by the number of messages or the room that is left
-  pub stopped : {stop : Option Refusal} {w' h' b' : List ℕ} {o' : Bytes} (x : Refusal) → AllocatesIn body w h b o stop w' h' b' o'
-      → stop ≡ Some x → {y : LinkAnswer} → y ≡ answer_of (Refused x) 0
+  pub stopped : {w' h' b' : List ℕ} {o' : Bytes} {x : Refusal} → AllocatesIn body w h b o (Err x) w' h' b' o' → {y : LinkAnswer} → y ≡ answer_of (Refused x) 0
       → Driven (parts w h b t) (parts w' h' b' t) y (λ s r. CalledWithOutbound (sends body) s l o r l o')
   unfolding opened_of
-  stopped {stop} {w'} {h'} {b'} {o'} x k e {y} f =
-      subst (λ (g : Float → Parts). Driven (parts w h b t) (g t) y (λ s r. CalledWithOutbound (sends body) s l o r l o')) (sym (k.kept x e))
+  stopped {o' = o'} {x = x} k {y} f =
+      subst (λ (g : Float → Parts). Driven (parts w h b t) (g t) y (λ s r. CalledWithOutbound (sends body) s l o r l o')) (sym (k.kept x refl))
       (refuses (parts w h b t) x f
-      (λ r u d q lq. S.refused (opened_of (parts w h b t)) l o body d q ready.list ready.outbound ready.sound ready.full lq ready.low (record { outbox = outbox_in w' h' b'; stop = stop }) o' k.allocates x u e))
+      (λ r u d q lq. S.refused (opened_of (parts w h b t)) l o body d q ready.list ready.outbound ready.sound ready.full lq ready.low k.allocates u))
 
 -- ---- a message joins, or does not
 
 module _ {body : Bytes} {w h b : List ℕ} {o : Bytes} where
-  pub refused_in : {x : Refusal} → Allocates body (outbox_in w h b) o (record { outbox = outbox_in w h b; stop = Some x }) o → AllocatesIn body w h b o (Some x) w h b o
+  pub refused_in : {x : Refusal} → Allocates body (outbox_in w h b) o (Err x) o → AllocatesIn body w h b o (Err x) w h b o
   refused_in a = record { allocates = a; words = past_same 2 w; halves = past_same 512 h; bytes = past_same 512 b; kept = λ y e. refl }
 
   pub joined_in : {w' h' b' : List ℕ} {o' : Bytes} → Joins w h b o body w' h' b' o'
-      → Allocates body (outbox_in w h b) o (record { outbox = outbox_in w' h' b'; stop = None }) o' → AllocatesIn body w h b o None w' h' b' o'
+      → Allocates body (outbox_in w h b) o (Ok (outbox_in w' h' b')) o' → AllocatesIn body w h b o (Ok tt) w' h' b' o'
   joined_in j a =
       record {
         allocates = a;
@@ -132,7 +125,7 @@ module _ {body : Bytes} {w h b : List ℕ} {o : Bytes} where
             };
         halves = j.halves;
         bytes = j.bytes;
-        kept = λ y e. let z : ◌≡◌ {A = ℕ} 0 1 = cc in absurd (omega arith);
+        kept = λ y e. cc;
       }
 
 -- where the bodies end, by the records in use
@@ -168,11 +161,3 @@ module _ (p : Parts) {n m : ℕ} where
 pub turned : (p : Parts) (l : List ℕ) (o body : Bytes) (x : Refusal) → Turns p (length l) (length o) x → {y : LinkAnswer} → y ≡ answer_of (Refused x) 0
     → Driven p p y (λ s r. CalledWithOutbound (sends body) s l o r l o)
 turned p l o body x k e = refuses p x e (λ r u d q lq. k.call l o body d q refl refl lq r u)
-
--- what the tests found, by their stop
-module _ (w h b : List ℕ) (t : Float) {n m : ℕ} {stop : Option Refusal} (f : Enters w h b n m stop) where
-  pub passed : stop ≡ None → Ready (parts w h b t) n m
-  passed e = subst (λ (s : Option Refusal). Found (parts w h b t) n m s) e (f t)
-
-  pub away : (x : Refusal) → stop ≡ Some x → Turns (parts w h b t) n m x
-  away x e = subst (λ (s : Option Refusal). Found (parts w h b t) n m s) e (f t)

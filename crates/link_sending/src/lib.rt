@@ -14,22 +14,28 @@ use peer_session::SessionState;
 use rules::Refusal;
 
 // The tests of a send, in their order.
-fn enters(words: &Words, halves: &Halves, bytes: &Bytes, list: usize, outbound: usize) -> Option<Refusal>
+fn enters(
+    words: &Words,
+    halves: &Halves,
+    bytes: &Bytes,
+    list: usize,
+    outbound: usize,
+) -> Result<(), Refusal>
     ensures { Enters words.now halves.now bytes.now list outbound result }
 {
     if list < SessionState::EVENT_WORDS {
-        return Some(Refusal::ShortBuffer);
+        return Err(Refusal::ShortBuffer);
     }
     if outbound < SessionState::OUTBOUND_BYTES {
-        return Some(Refusal::ShortBuffer);
+        return Err(Refusal::ShortBuffer);
     }
     if !link_sound::sound(words, halves, bytes) {
-        return Some(Refusal::BadRecord);
+        return Err(Refusal::BadRecord);
     }
     if SessionState::GENERATION_LIMIT <= halves[parts::GENERATION] {
-        return Some(Refusal::GenerationsExhausted);
+        return Err(Refusal::GenerationsExhausted);
     }
-    None
+    Ok(())
 }
 
 // `peer_session::allocate`: a message gets the next number and joins the unacked as pending, or is refused.
@@ -39,23 +45,23 @@ pub fn allocate(
     bytes: &mut Bytes,
     store: &mut [u8],
     body: &[u8],
-) -> Option<Refusal>
+) -> Result<(), Refusal>
     requires { ExactOutbox (outbox_in words.old halves.old bytes.old) (length store.old) }
     ensures { AllocatesIn body.now words.old halves.old bytes.old store.old result words.new halves.new bytes.new store.new }
 {
     if SessionState::LAST_MESSAGE < words[parts::NEXT] {
-        return Some(Refusal::NumbersExhausted);
+        return Err(Refusal::NumbersExhausted);
     }
     let count = words[parts::UNACKED] as usize;
     if SessionState::MAX_UNACKED <= count {
-        return Some(Refusal::UnackedFull);
+        return Err(Refusal::UnackedFull);
     }
     let at = link_outbox::used(halves, count);
     if SessionState::OUTBOUND_BYTES - at < body.len() {
-        return Some(Refusal::UnackedFull);
+        return Err(Refusal::UnackedFull);
     }
     link_outbox::append(words, halves, bytes, store, at, body);
-    None
+    Ok(())
 }
 
 // A send past its tests.
@@ -74,15 +80,14 @@ fn goes(
     full_halves(halves);
     let number = words[parts::NEXT];
     let generation = halves[parts::GENERATION];
-    let stop = allocate(words, halves, bytes, outbound, body);
-    match stop {
-        Some(x) => link_codes::refusal(x),
-        None => {
+    match allocate(words, halves, bytes, outbound, body) {
+        Ok(()) => {
             halves[parts::GENERATION] = generation + 1;
             let k = link_codes::clock_in(halves, clock);
             let n = events::request(k, list, 0);
             link_codes::plain(1, number, n)
         }
+        Err(x) => link_codes::refusal(x),
     }
 }
 
@@ -98,9 +103,8 @@ pub fn send(
 ) -> LinkAnswer
     ensures { Driven (parts words.old halves.old bytes.old clock.now) (parts words.new halves.new bytes.new clock.now) result (λ s y. CalledWithOutbound (sends body.now) s list.old outbound.old y list.new outbound.new) }
 {
-    let stop = enters(words, halves, bytes, list.len(), outbound.len());
-    match stop {
-        Some(x) => link_codes::refusal(x),
-        None => goes(words, halves, bytes, clock, list, outbound, body),
+    match enters(words, halves, bytes, list.len(), outbound.len()) {
+        Ok(()) => goes(words, halves, bytes, clock, list, outbound, body),
+        Err(x) => link_codes::refusal(x),
     }
 }

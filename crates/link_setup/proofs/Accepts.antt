@@ -14,7 +14,7 @@ use Rattle.rules.specs.declared.Terms.{Terms}
 use Rattle.rules.specs.Lists.{Bytes}
 use Rattle.rules.specs.Setup.{is_none}
 use Rattle.rules.specs.Calls.{accepts}
-use Rattle.std.specs.Prelude.{Option, None, Some}
+use Rattle.std.specs.Prelude.{Ok, Err}
 use Rattle.peer_session.specs.View.{state_of}
 use Rattle.peer_session.specs.Sound.{sound_of, Checked}
 use Rattle.session.specs.Promise.{CalledWithOutboundAlone}
@@ -31,7 +31,7 @@ use Rattle.parts.proofs.Drives.{changes, refuses}
 use Rattle.link_sound.proofs.Parts.{usable}
 use Rattle.link_sending.specs.Sends.{AllocatesIn}
 use Rattle.link_sending.proofs.Sends.{raised}
-use Rattle.link_setup.specs.Steps.{Stages, Accepting, NotAccepting, AcceptFound, AcceptEnters}
+use Rattle.link_setup.specs.Steps.{Stages, Accepting, NotAccepting, AcceptEnters}
 use Rattle.link_setup.proofs.Stages.{is-fresh, not_fresh, restaged, stages_apart, stage-waits, long-bytes}
 use Rattle.link_setup.proofs.Joins.{joins, joins_not, joined_waiting}
 
@@ -94,19 +94,10 @@ module _ (w h b : List ℕ) (t : Float) (terms : Terms) {n : ℕ} (ln : 65536 �
       unfolding opened_of
       may_accept f = record { checked = k; outbound = ln; low = low; new = is-new; first = f }
 
--- what they found, by their stop
-module _ (w h b : List ℕ) (t : Float) {terms : Terms} {n : ℕ} {stop : Option Refusal} (f : AcceptEnters terms w h b n stop) where
-  pub passed : stop ≡ None → Accepting (parts w h b t) terms n
-  passed e = subst (λ (s : Option Refusal). AcceptFound (parts w h b t) terms n s) e (f t)
-
-  away : (x : Refusal) → stop ≡ Some x → NotAccepting (parts w h b t) terms n x
-  away x e = subst (λ (s : Option Refusal). AcceptFound (parts w h b t) terms n s) e (f t)
-
-pub turned : (w h b : List ℕ) (t : Float) (terms : Terms) (o body : Bytes) {stop : Option Refusal} (x : Refusal) → AcceptEnters terms w h b (length o) stop → stop ≡ Some x
-    → {y : LinkAnswer} → y ≡ answer_of (Refused x) 0
+-- what they refuse
+pub turned : (w h b : List ℕ) (t : Float) (terms : Terms) (o body : Bytes) {x : Refusal} → AcceptEnters terms w h b (length o) (Err x) → {y : LinkAnswer} → y ≡ answer_of (Refused x) 0
     → Driven (parts w h b t) (parts w h b t) y (λ s r. CalledWithOutboundAlone (accepts terms body) s o r o)
-turned w h b t terms o body x f e z =
-    refuses (parts w h b t) x z (λ r u l d q lq. (away w h b t f x e).call l o body d q refl lq r u)
+turned w h b t terms o body {x} f z = refuses (parts w h b t) x z (λ r u l d q lq. (f t).call l o body d q refl lq r u)
 
 -- ---- past them
 
@@ -126,22 +117,17 @@ module _ (w h b : List ℕ) (t : Float) (terms : Terms) (o body : Bytes) (ready 
 
   module _ (i : terms.initiator ≡ true) where
     -- a proposal is made
-    proposes : (lh : length h ≡ 772) {w' h' b' : List ℕ} {o' : Bytes} → AllocatesIn body w h b o None w' h' b' o' → {h'' b'' : List ℕ} → Stages 1 1 terms (raised h h') b' h'' b''
-        → {y : LinkAnswer} → y ≡ answer_of Done 0
-        → Driven (parts w h b t) (parts w' h'' b'' t) y (λ s r. CalledWithOutboundAlone (accepts terms body) s o r o')
-    proposes lh {w'} {h'} {b'} {o'} a {h''} {b''} s f =
-        changes (parts w h b t) (sym k.is) (parts w' h'' b'' t) _ (joined_waiting w h b t k lh a s) Done 0 f
-        (λ l d q lq. L.comes accepting (opened_of (parts w h b t)) l d o q not_taken (sym k.is) k.full ready.outbound lq (proposed terms body (opened_of (parts w h b t)) l o _ o' (joins w h b t k lh a 1 ready.outbound) refl refl) (accept-first terms body (state_of (opened_of (parts w h b t)) o q) ready.low ready.new i (ready.first i)) (λ e. refl))
-
-    pub went : (lh : length h ≡ 772) {stop : Option Refusal} {w' h' b' : List ℕ} {o' : Bytes} → AllocatesIn body w h b o stop w' h' b' o' → stop ≡ None → {h'' b'' : List ℕ}
+    pub proposes : (lh : length h ≡ 772) {w' h' b' : List ℕ} {o' : Bytes} → AllocatesIn body w h b o (Ok tt) w' h' b' o' → {h'' b'' : List ℕ}
         → Stages 1 1 terms (raised h h') b' h'' b'' → {y : LinkAnswer} → y ≡ answer_of Done 0
         → Driven (parts w h b t) (parts w' h'' b'' t) y (λ s r. CalledWithOutboundAlone (accepts terms body) s o r o')
-    went lh {w' = w'} {h' = h'} {b' = b'} {o' = o'} a e s f = proposes lh (subst (λ (x : Option Refusal). AllocatesIn body w h b o x w' h' b' o') e a) s f
+    proposes lh {w'} {b' = b'} a {h''} {b''} s f =
+        changes (parts w h b t) (sym k.is) (parts w' h'' b'' t) _ (joined_waiting w h b t k lh a s) Done 0 f
+        (λ l d q lq. L.comes accepting (opened_of (parts w h b t)) l d o q not_taken (sym k.is) k.full ready.outbound lq (proposed terms (joins w h b t k lh a 1) refl) (accept-first terms body (state_of (opened_of (parts w h b t)) o q) ready.low ready.new i (ready.first i)) (λ e. refl))
 
     -- or it is refused
-    pub stopped : {stop : Option Refusal} {w' h' b' : List ℕ} {o' : Bytes} (x : Refusal) → AllocatesIn body w h b o stop w' h' b' o' → stop ≡ Some x
-        → {y : LinkAnswer} → y ≡ answer_of (Refused x) 0 → Driven (parts w h b t) (parts w' h' b' t) y (λ s r. CalledWithOutboundAlone (accepts terms body) s o r o')
-    stopped {o' = o'} x a e {y} f =
-        subst (λ (g : Float → Parts). Driven (parts w h b t) (g t) y (λ s r. CalledWithOutboundAlone (accepts terms body) s o r o')) (sym (a.kept x e))
+    pub stopped : {w' h' b' : List ℕ} {o' : Bytes} {x : Refusal} → AllocatesIn body w h b o (Err x) w' h' b' o' → {y : LinkAnswer} → y ≡ answer_of (Refused x) 0
+        → Driven (parts w h b t) (parts w' h' b' t) y (λ s r. CalledWithOutboundAlone (accepts terms body) s o r o')
+    stopped {o' = o'} {x = x} a {y} f =
+        subst (λ (g : Float → Parts). Driven (parts w h b t) (g t) y (λ s r. CalledWithOutboundAlone (accepts terms body) s o r o')) (sym (a.kept x refl))
         (refuses (parts w h b t) x f
-        (λ r u l d q lq. L.comes accepting (opened_of (parts w h b t)) l d o q not_taken (sym k.is) k.full ready.outbound lq (proposal_stopped terms body (opened_of (parts w h b t)) l o _ o' (joins_not w h b t k 1 ready.outbound x a e) x refl u) (accept-first terms body (state_of (opened_of (parts w h b t)) o q) ready.low ready.new i (ready.first i)) (λ z. refl)))
+        (λ r u l d q lq. L.comes accepting (opened_of (parts w h b t)) l d o q not_taken (sym k.is) k.full ready.outbound lq (proposal_stopped terms (joins_not w h b t k 1 a) u) (accept-first terms body (state_of (opened_of (parts w h b t)) o q) ready.low ready.new i (ready.first i)) (λ z. refl)))

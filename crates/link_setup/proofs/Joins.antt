@@ -11,7 +11,7 @@ use Rattle.rules.specs.declared.Setup.{Setup}
 use Rattle.rules.specs.declared.Setup.TheVariants.{Waiting}
 use Rattle.rules.specs.declared.Terms.{Terms}
 use Rattle.rules.specs.Lists.{Bytes}
-use Rattle.std.specs.Prelude.{Option, None, Some}
+use Rattle.std.specs.Prelude.{Ok, Err}
 use Rattle.peer_session.specs.declared.SessionState.{SessionState}
 use Rattle.peer_session.specs.Sound.{Checked}
 use Rattle.setup.specs.Steps.{staged, Joins}
@@ -33,13 +33,11 @@ module _ (w h b : List ℕ) (t : Float) (k : Checked (opened_of (parts w h b t))
 
   module _ {o body o' : Bytes} {w' h' b' : List ℕ} where
     -- a refusal
-    pub joins_not : (d : ℕ) {stop : Option Refusal} → 65536 ≤ length o → (x : Refusal) → AllocatesIn body w h b o stop w' h' b' o' → stop ≡ Some x
-        → Joins body d (opened_of (parts w h b t)) o (record { session = opened_of (parts w h b t); stop = Some x }) o'
+    pub joins_not : (d : ℕ) {x : Refusal} → AllocatesIn body w h b o (Err x) w' h' b' o' → Joins body d (opened_of (parts w h b t)) o (Err x) o'
     unfolding opened_of
-    joins_not d {stop} lo x a e =
-        Steps.joins_not body d (opened_of (parts w h b t)) o (record { outbox = outbox_in w' h' b'; stop = stop }) o' ((usable w h b t k).unacked o lo) a.allocates x e
+    joins_not d a = Steps.joins_not a.allocates
 
-    module _ (lh : length h ≡ 772) (a : AllocatesIn body w h b o None w' h' b' o') where
+    module _ (lh : length h ≡ 772) (a : AllocatesIn body w h b o (Ok tt) w' h' b' o') where
       -- the session with the message, under the stage that it had
       abbrev pub grown : SessionState
       grown =
@@ -50,10 +48,9 @@ module _ (w h b : List ℕ) (t : Float) (k : Checked (opened_of (parts w h b t))
       grows : opened_of (parts w' (raised h h') b' t) ≡ grown
       grows = left w h b t (long-words w h b t k.full) (long-bytes w h b t k.full) lh a
 
-      pub joins : (d : ℕ) → 65536 ≤ length o → Joins body d (opened_of (parts w h b t)) o (record { session = staged d (opened_of (parts w h b t)).stage.setup grown; stop = None }) o'
+      pub joins : (d : ℕ) → Joins body d (opened_of (parts w h b t)) o (Ok (staged d (opened_of (parts w h b t)).stage.setup grown)) o'
       unfolding opened_of
-      joins d lo =
-          Steps.joins body d (opened_of (parts w h b t)) o (record { outbox = outbox_in w' h' b'; stop = None }) o' ((usable w h b t k).unacked o lo) a.allocates refl
+      joins d = Steps.joins a.allocates
 
       lb : 4936 ≤ length b'
       lb = omega (arith, a.bytes.size, long-bytes w h b t k.full)

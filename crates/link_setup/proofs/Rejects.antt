@@ -12,7 +12,7 @@ use Rattle.rules.specs.declared.Refusal.{Refusal}
 use Rattle.rules.specs.declared.Refusal.TheVariants.{ShortBuffer, BadRecord, GenerationsExhausted}
 use Rattle.rules.specs.Lists.{Bytes}
 use Rattle.rules.specs.Calls.{rejects}
-use Rattle.std.specs.Prelude.{Option, None, Some}
+use Rattle.std.specs.Prelude.{Ok, Err}
 use Rattle.events.specs.Written.{Listed, asked}
 use Rattle.peer_session.specs.declared.RejectBody.{RejectBody}
 use Rattle.peer_session.specs.View.{state_of}
@@ -29,7 +29,7 @@ use Rattle.parts.specs.Driven.{Driven}
 use Rattle.parts.proofs.Drives.{changes, refuses}
 use Rattle.link_sending.specs.Sends.{AllocatesIn}
 use Rattle.link_sending.proofs.Sends.{raised, clock-raised}
-use Rattle.link_setup.specs.Steps.{Rejecting, NotRejecting, RejectFound, RejectEnters}
+use Rattle.link_setup.specs.Steps.{Rejecting, NotRejecting, RejectEnters}
 use Rattle.link_setup.proofs.Stages.{long-words, long-bytes}
 use Rattle.link_setup.proofs.Joins.{joins, joins_not, joined_under}
 
@@ -67,17 +67,10 @@ module _ (w h b : List ℕ) (t : Float) {n m : ℕ} (ln : 4096 ≤ n) (lm : 6553
   unfolding opened_of
   may_reject e = record { checked = k; list = ln; outbound = lm; low = e }
 
--- what they found, by their stop
-module _ (w h b : List ℕ) (t : Float) {n m : ℕ} {stop : Option Refusal} (f : RejectEnters w h b n m stop) where
-  pub passed : stop ≡ None → Rejecting (parts w h b t) n m
-  passed e = subst (λ (s : Option Refusal). RejectFound (parts w h b t) n m s) e (f t)
-
-  away : (x : Refusal) → stop ≡ Some x → NotRejecting (parts w h b t) n m x
-  away x e = subst (λ (s : Option Refusal). RejectFound (parts w h b t) n m s) e (f t)
-
-pub turned : (w h b : List ℕ) (t : Float) (l : List ℕ) (o : Bytes) {stop : Option Refusal} (x : Refusal) → RejectEnters w h b (length l) (length o) stop → stop ≡ Some x
-    → {y : LinkAnswer} → y ≡ answer_of (Refused x) 0 → Driven (parts w h b t) (parts w h b t) y (λ s r. CalledWithOutbound rejects s l o r l o)
-turned w h b t l o x f e z = refuses (parts w h b t) x z (λ r u d q lq. (away w h b t f x e).call l o d q refl refl lq r u)
+-- what they refuse
+pub turned : (w h b : List ℕ) (t : Float) (l : List ℕ) (o : Bytes) {x : Refusal} → RejectEnters w h b (length l) (length o) (Err x) → {y : LinkAnswer} → y ≡ answer_of (Refused x) 0
+    → Driven (parts w h b t) (parts w h b t) y (λ s r. CalledWithOutbound rejects s l o r l o)
+turned w h b t l o {x} f z = refuses (parts w h b t) x z (λ r u d q lq. (f t).call l o d q refl refl lq r u)
 
 -- ---- past them
 
@@ -94,35 +87,32 @@ module _ (w h b : List ℕ) (t : Float) (l : List ℕ) (o : Bytes) (ready : Reje
   abbrev body : Bytes
   body = take (at w 14) (reject_in w b).bytes
 
-  rejects_it : (lh : length h ≡ 772) {w' h' b' : List ℕ} {o' : Bytes} → AllocatesIn body w h b o None w' h' b' o' → (l' : List ℕ) (n : ℕ)
+  is-taken : {A : Type 0} → true ≡ false → A
+  is-taken e = not_taken (sym e)
+
+  rejects_it : (lh : length h ≡ 772) {w' h' b' : List ℕ} {o' : Bytes} → AllocatesIn body w h b o (Ok tt) w' h' b' o' → {l' : List ℕ} {n : ℕ}
       → Listed (asked (clock_in (raised h h') t)) l 0 l' n → {y : LinkAnswer} → y ≡ answer_of Done n
       → Driven (parts w h b t) (parts w' (raised h h') (set b' 768 4) t) y (λ s r. CalledWithOutbound rejects s l o r l' o')
   unfolding opened_of
-  rejects_it lh {w'} {h'} {b'} {o'} a l' n li f =
+  rejects_it lh {w'} {h'} {b'} {o'} a {l'} {n} li f =
       let lw : 1296 ≤ length w = long-words w h b t k.full in
       let lb : 4936 ≤ length b = long-bytes w h b t k.full in
       changes (parts w h b t) (sym k.is) (parts w' (raised h h') (set b' 768 4) t) _ (joined_under w h b t k lh a 4) Done n f
-      (λ d q lq. L.comes rejects_plain (opened_of (parts w h b t)) l d o q (λ x. ready.list) (sym k.is) k.full ready.outbound lq (rejected (opened_of (parts w h b t)) l o _ o' (joins w h b t k lh a 4 ready.outbound) refl (record { is = refl; listed = subst (λ (c : Clock). Listed (asked c) l 0 l' n) (clock-raised w h b t lw lb lh a) li })) (reject-goes (state_of (opened_of (parts w h b t)) o q) ready.low) not_taken')
-    where
-      not_taken' : {A : Type 0} → true ≡ false → A
-      not_taken' e = not_taken (sym e)
+      (λ d q lq. L.comes rejects_plain (opened_of (parts w h b t)) l d o q (λ x. ready.list) (sym k.is) k.full ready.outbound lq (rejected (joins w h b t k lh a 4) (record { is = refl; listed = subst (λ (c : Clock). Listed (asked c) l 0 l' n) (clock-raised w h b t lw lb lh a) li })) (reject-goes (state_of (opened_of (parts w h b t)) o q) ready.low) is-taken)
 
-  pub went : (lh : length h ≡ 772) (j : RejectBody) → j ≡ reject_in w b → {stop : Option Refusal} {w' h' b' : List ℕ} {o' : Bytes}
-      → AllocatesIn (take j.len j.bytes) w h b o stop w' h' b' o' → stop ≡ None → (c : Clock) → c ≡ clock_in (raised h h') t → (l' : List ℕ) (n : ℕ)
-      → Listed (asked c) l 0 l' n → {y : LinkAnswer} → y ≡ answer_of Done n
-      → Driven (parts w h b t) (parts w' (raised h h') (set b' 768 4) t) y (λ s r. CalledWithOutbound rejects s l o r l' o')
-  went lh j ej {w' = w'} {h' = h'} {b' = b'} {o' = o'} a e c ec l' n li f =
-      rejects_it lh
-      (subst (λ (x : RejectBody). AllocatesIn (take x.len x.bytes) w h b o None w' h' b' o') ej
-      (subst (λ (x : Option Refusal). AllocatesIn (take j.len j.bytes) w h b o x w' h' b' o') e a))
-      l' n (subst (λ (x : Clock). Listed (asked x) l 0 l' n) ec li) f
+  module _ {j : RejectBody} (ej : j ≡ reject_in w b) where
+    pub went : (lh : length h ≡ 772) {w' h' b' : List ℕ} {o' : Bytes} → AllocatesIn (take j.len j.bytes) w h b o (Ok tt) w' h' b' o'
+        → {c : Clock} → c ≡ clock_in (raised h h') t → {l' : List ℕ} {n : ℕ} → Listed (asked c) l 0 l' n → {y : LinkAnswer} → y ≡ answer_of Done n
+        → Driven (parts w h b t) (parts w' (raised h h') (set b' 768 4) t) y (λ s r. CalledWithOutbound rejects s l o r l' o')
+    went lh {w'} {h'} {b'} {o'} a ec {l'} {n} li f =
+        rejects_it lh (subst (λ (x : RejectBody). AllocatesIn (take x.len x.bytes) w h b o (Ok tt) w' h' b' o') ej a)
+        (subst (λ (x : Clock). Listed (asked x) l 0 l' n) ec li) f
 
-  pub stopped : (j : RejectBody) → j ≡ reject_in w b → {stop : Option Refusal} {w' h' b' : List ℕ} {o' : Bytes} (x : Refusal)
-      → AllocatesIn (take j.len j.bytes) w h b o stop w' h' b' o' → stop ≡ Some x → {y : LinkAnswer} → y ≡ answer_of (Refused x) 0
-      → Driven (parts w h b t) (parts w' h' b' t) y (λ s r. CalledWithOutbound rejects s l o r l o')
-  unfolding opened_of
-  stopped j ej {stop} {w'} {h'} {b'} {o'} x a e {y} f =
-      let a' : AllocatesIn body w h b o stop w' h' b' o' = subst (λ (z : RejectBody). AllocatesIn (take z.len z.bytes) w h b o stop w' h' b' o') ej a in
-      subst (λ (g : Float → Parts). Driven (parts w h b t) (g t) y (λ s r. CalledWithOutbound rejects s l o r l o')) (sym (a.kept x e))
-      (refuses (parts w h b t) x f
-      (λ r u d q lq. L.comes rejects_plain (opened_of (parts w h b t)) l d o q (λ z. ready.list) (sym k.is) k.full ready.outbound lq (rejection_stopped (opened_of (parts w h b t)) l o _ o' (joins_not w h b t k 4 ready.outbound x a' e) x refl u) (reject-goes (state_of (opened_of (parts w h b t)) o q) ready.low) (λ z. refl)))
+    pub stopped : {w' h' b' : List ℕ} {o' : Bytes} {x : Refusal} → AllocatesIn (take j.len j.bytes) w h b o (Err x) w' h' b' o' → {y : LinkAnswer} → y ≡ answer_of (Refused x) 0
+        → Driven (parts w h b t) (parts w' h' b' t) y (λ s r. CalledWithOutbound rejects s l o r l o')
+    unfolding opened_of
+    stopped {w'} {h'} {b'} {o'} {x} a {y} f =
+        let a' : AllocatesIn body w h b o (Err x) w' h' b' o' = subst (λ (z : RejectBody). AllocatesIn (take z.len z.bytes) w h b o (Err x) w' h' b' o') ej a in
+        subst (λ (g : Float → Parts). Driven (parts w h b t) (g t) y (λ s r. CalledWithOutbound rejects s l o r l o')) (sym (a.kept x refl))
+        (refuses (parts w h b t) x f
+        (λ r u d q lq. L.comes rejects_plain (opened_of (parts w h b t)) l d o q (λ z. ready.list) (sym k.is) k.full ready.outbound lq (rejection_stopped (joins_not w h b t k 4 a') u) (reject-goes (state_of (opened_of (parts w h b t)) o q) ready.low) (λ z. refl)))

@@ -1,5 +1,5 @@
 -- The steps of a setup on the parts of a session. Assumes nothing.
-use Rattle.std.specs.Prelude.{ℕ, ◌≤◌, ◌<◌, ◌≡◌, true, List, Float, length, set, Option, None, Some}
+use Rattle.std.specs.Prelude.{ℕ, ◌≤◌, ◌<◌, ◌≡◌, true, List, Float, length, set, Result, Ok, Err}
 use Rattle.rules.specs.declared.Refusal.{Refusal}
 use Rattle.rules.specs.declared.Terms.{Terms}
 use Rattle.rules.specs.Lists.{Bytes}
@@ -29,11 +29,11 @@ pub record NotAccepting (p : Parts) (terms : Terms) (n : ℕ) (x : Refusal) : Ty
   pub call : (l : List ℕ) (o b d q : Bytes) → length o ≡ n → 32768 ≤ length q → (r : Returned) → Turned (opened_of p) x r
       → Called (accepts terms b) (opened_of p) (lent l d o q) r (lent l d o q)
 
-abbrev pub AcceptFound : Parts → Terms → ℕ → Option Refusal → Type 0
-AcceptFound p terms n None = Accepting p terms n
-AcceptFound p terms n (Some x) = NotAccepting p terms n x
+abbrev pub AcceptFound : Parts → Terms → ℕ → Result (Unit {0}) Refusal → Type 0
+AcceptFound p terms n (Ok tt) = Accepting p terms n
+AcceptFound p terms n (Err x) = NotAccepting p terms n x
 
-abbrev pub AcceptEnters : Terms → List ℕ → List ℕ → List ℕ → ℕ → Option Refusal → Type 0
+abbrev pub AcceptEnters : Terms → List ℕ → List ℕ → List ℕ → ℕ → Result (Unit {0}) Refusal → Type 0
 AcceptEnters terms w h b n r = (t : Float) → AcceptFound (parts w h b t) terms n r
 
 -- ---- reject: the same, for a list of n words and an outbound store of m bytes
@@ -48,9 +48,9 @@ pub record NotRejecting (p : Parts) (n m : ℕ) (x : Refusal) : Type 0 where
   pub call : (l : List ℕ) (o d q : Bytes) → length l ≡ n → length o ≡ m → 32768 ≤ length q → (r : Returned) → Turned (opened_of p) x r
       → Called rejects (opened_of p) (lent l d o q) r (lent l d o q)
 
-abbrev pub RejectFound : Parts → ℕ → ℕ → Option Refusal → Type 0
-RejectFound p n m None = Rejecting p n m
-RejectFound p n m (Some x) = NotRejecting p n m x
+abbrev pub RejectFound : Parts → ℕ → ℕ → Result (Unit {0}) Refusal → Type 0
+RejectFound p n m (Ok tt) = Rejecting p n m
+RejectFound p n m (Err x) = NotRejecting p n m x
 
-abbrev pub RejectEnters : List ℕ → List ℕ → List ℕ → ℕ → ℕ → Option Refusal → Type 0
+abbrev pub RejectEnters : List ℕ → List ℕ → List ℕ → ℕ → ℕ → Result (Unit {0}) Refusal → Type 0
 RejectEnters w h b n m r = (t : Float) → RejectFound (parts w h b t) n m r

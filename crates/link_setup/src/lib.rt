@@ -64,28 +64,28 @@ fn accept_enters(
     bytes: &Bytes,
     outbound: usize,
     terms: Terms,
-) -> Option<Refusal>
+) -> Result<(), Refusal>
     ensures { AcceptEnters terms words.now halves.now bytes.now outbound result }
 {
     if outbound < SessionState::OUTBOUND_BYTES {
-        return Some(Refusal::ShortBuffer);
+        return Err(Refusal::ShortBuffer);
     }
     if !link_sound::sound(words, halves, bytes) {
-        return Some(Refusal::BadRecord);
+        return Err(Refusal::BadRecord);
     }
     if SessionState::GENERATION_LIMIT <= halves[parts::GENERATION] {
-        return Some(Refusal::GenerationsExhausted);
+        return Err(Refusal::GenerationsExhausted);
     }
     if bytes[parts::SETUP] != 0 {
-        return Some(Refusal::AlreadyAccepted);
+        return Err(Refusal::AlreadyAccepted);
     }
     if !terms.initiator {
-        return None;
+        return Ok(());
     }
     if words[parts::NEXT] != 1 {
-        return Some(Refusal::ProposalNotFirst);
+        return Err(Refusal::ProposalNotFirst);
     }
-    None
+    Ok(())
 }
 
 // An initiator's proposal is sent first.
@@ -103,14 +103,13 @@ fn propose(
 {
     parts::full_halves(halves);
     let generation = halves[parts::GENERATION];
-    let stop = link_sending::allocate(words, halves, bytes, outbound, body);
-    match stop {
-        Some(x) => link_codes::refusal(x),
-        None => {
+    match link_sending::allocate(words, halves, bytes, outbound, body) {
+        Ok(()) => {
             halves[parts::GENERATION] = generation + 1;
             stage(halves, bytes, 1, 1, terms);
             link_codes::plain(0, 0, 0)
         }
+        Err(x) => link_codes::refusal(x),
     }
 }
 
@@ -147,10 +146,9 @@ pub fn accept(
 ) -> LinkAnswer
     ensures { Driven (parts words.old halves.old bytes.old clock.now) (parts words.new halves.new bytes.new clock.now) result (λ s y. CalledWithOutboundAlone (accepts terms body.now) s outbound.old y outbound.new) }
 {
-    let stop = accept_enters(words, halves, bytes, outbound.len(), terms);
-    match stop {
-        Some(x) => link_codes::refusal(x),
-        None => accepted(words, halves, bytes, clock, outbound, terms, body),
+    match accept_enters(words, halves, bytes, outbound.len(), terms) {
+        Ok(()) => accepted(words, halves, bytes, clock, outbound, terms, body),
+        Err(x) => link_codes::refusal(x),
     }
 }
 
@@ -163,22 +161,22 @@ fn reject_enters(
     bytes: &Bytes,
     list: usize,
     outbound: usize,
-) -> Option<Refusal>
+) -> Result<(), Refusal>
     ensures { RejectEnters words.now halves.now bytes.now list outbound result }
 {
     if list < SessionState::EVENT_WORDS {
-        return Some(Refusal::ShortBuffer);
+        return Err(Refusal::ShortBuffer);
     }
     if outbound < SessionState::OUTBOUND_BYTES {
-        return Some(Refusal::ShortBuffer);
+        return Err(Refusal::ShortBuffer);
     }
     if !link_sound::sound(words, halves, bytes) {
-        return Some(Refusal::BadRecord);
+        return Err(Refusal::BadRecord);
     }
     if SessionState::GENERATION_LIMIT <= halves[parts::GENERATION] {
-        return Some(Refusal::GenerationsExhausted);
+        return Err(Refusal::GenerationsExhausted);
     }
-    None
+    Ok(())
 }
 
 // The session's reject body is sent.
@@ -198,16 +196,15 @@ fn send_reject(
     let j = link_codes::reject_in(words, bytes);
     let body = j.bytes;
     let len = j.len;
-    let stop = link_sending::allocate(words, halves, bytes, outbound, &body[..len]);
-    match stop {
-        Some(x) => link_codes::refusal(x),
-        None => {
+    match link_sending::allocate(words, halves, bytes, outbound, &body[..len]) {
+        Ok(()) => {
             halves[parts::GENERATION] = generation + 1;
             bytes[parts::DISPOSITION] = 4;
             let k = link_codes::clock_in(halves, clock);
             let n = events::request(k, list, 0);
             link_codes::plain(0, 0, n)
         }
+        Err(x) => link_codes::refusal(x),
     }
 }
 
@@ -222,9 +219,8 @@ pub fn reject(
 ) -> LinkAnswer
     ensures { Driven (parts words.old halves.old bytes.old clock.now) (parts words.new halves.new bytes.new clock.now) result (λ s y. CalledWithOutbound rejects s list.old outbound.old y list.new outbound.new) }
 {
-    let stop = reject_enters(words, halves, bytes, list.len(), outbound.len());
-    match stop {
-        Some(x) => link_codes::refusal(x),
-        None => send_reject(words, halves, bytes, clock, list, outbound),
+    match reject_enters(words, halves, bytes, list.len(), outbound.len()) {
+        Ok(()) => send_reject(words, halves, bytes, clock, list, outbound),
+        Err(x) => link_codes::refusal(x),
     }
 }

@@ -3,6 +3,8 @@ use Rattle.std.specs.Prelude.{if◌then◌else◌}
 use mathlib.Core.Path.{◌≡◌, refl, ap, ◌∙◌}
 use mathlib.Core.Bool.{Bool, true, false}
 use mathlib.Core.List.{List, []}
+use Rattle.rules.specs.declared.ReceiveMode.{ReceiveMode}
+use Rattle.rules.specs.declared.ReceiveMode.TheVariants.{Raw, Proposal, Channel, Rejection, Retiring}
 use Rattle.rules.specs.Lists.{Bytes}
 use Rattle.rules.specs.State as R
 use Rattle.rules.specs.State.{is_channel, queue_is, failed_is}
@@ -18,6 +20,17 @@ broken_if : (t : R.State) (b : Bool) (fs : List R.Frame) → fs ≡ []
     → queue_is fs (failed_is (if b then true else t.stage.failed) t) ≡ queue_is [] (if b then failed_is true t else t)
 broken_if t true fs e = ap (λ (gs : List R.Frame). queue_is gs (failed_is true t)) e
 broken_if t false fs e = ap (λ (gs : List R.Frame). queue_is gs t) e
+
+-- failed after a refusal, by the test of the mode
+pub fails_in : {m : ReceiveMode} (b : Bool) → m ≡ Channel → true ≡ failed_in m b
+fails_in b e = rw e refl
+
+pub fails-not : (m : ReceiveMode) (b : Bool) → (m ≡ Channel → ⊥) → b ≡ failed_in m b
+fails-not Raw b n = refl
+fails-not Proposal b n = refl
+fails-not Channel b n = absurd (n refl)
+fails-not Rejection b n = refl
+fails-not Retiring b n = refl
 
 module _ (s : SessionState) (q : Bytes) (x : Queue) (q' : Bytes) (failed : Bool) where
   abbrev next : SessionState

@@ -18,7 +18,7 @@ use Rattle.rules.specs.Progress.{stays, halts}
 use Rattle.rules.specs.Sending.{fresh, numbered, allocate}
 use Rattle.rules.specs.Buffers.{repacked}
 use Rattle.rules.proofs.Buffers.{repacked-same}
-use Rattle.std.specs.Prelude.{None, Some}
+use Rattle.std.specs.Prelude.{Ok, Err}
 use Rattle.outbox.specs.declared.Outbox.{Outbox}
 use Rattle.outbox.specs.View.{end_u, unacked_of, outbox_of, ExactOutbox}
 use Rattle.outbox.specs.Steps.{Appended}
@@ -59,7 +59,7 @@ module _ (b : Bytes) (d : ℕ) (t : R.State) where
 
 module _ (b : Bytes) (x : Outbox) (o : Bytes) (exact : ExactOutbox x (length o)) where
   -- a refusal, whichever test gave it
-  refuses : (y : Refusal) → ((t : R.State) (d : ℕ) → t.outbox ≡ outbox_of x o → allocate b d t ≡ halts y t) → Allocates b x o (record { outbox = x; stop = Some y }) o
+  refuses : (y : Refusal) → ((t : R.State) (d : ℕ) → t.outbox ≡ outbox_of x o → allocate b d t ≡ halts y t) → Allocates b x o (Err y) o
   refuses y f =
       record {
         does = f;
@@ -69,17 +69,17 @@ module _ (b : Bytes) (x : Outbox) (o : Bytes) (exact : ExactOutbox x (length o))
         kept = λ z e. refl;
       }
 
-  pub spent : 4294967295 < x.next → Allocates b x o (record { outbox = x; stop = Some NumbersExhausted }) o
+  pub spent : 4294967295 < x.next → Allocates b x o (Err NumbersExhausted) o
   spent h = refuses NumbersExhausted (λ t d e. allocate_spent b d t (rw e h))
 
   module _ (l : x.next ≤ 4294967295) where
-    pub many : 256 ≤ x.count → Allocates b x o (record { outbox = x; stop = Some UnackedFull }) o
+    pub many : 256 ≤ x.count → Allocates b x o (Err UnackedFull) o
     many h = refuses UnackedFull (λ t d e. allocate-many b d t (rw e l) (rw e (omega (arith, exact-count x o exact))))
 
-    pub long : 65536 < end_u x + length b → Allocates b x o (record { outbox = x; stop = Some UnackedFull }) o
+    pub long : 65536 < end_u x + length b → Allocates b x o (Err UnackedFull) o
     long h = refuses UnackedFull (λ t d e. allocate-long b d t (rw e l) (rw e (omega (arith, exact-total x o exact))))
 
-    pub joins : x.count < 256 → end_u x + length b ≤ 65536 → (r : Outbox) (o' : Bytes) → Appended x o b r o' → Allocates b x o (record { outbox = r; stop = None }) o'
+    pub joins : x.count < 256 → end_u x + length b ≤ 65536 → (r : Outbox) (o' : Bytes) → Appended x o b r o' → Allocates b x o (Ok r) o'
     unfolding numbered
     joins few room r o' a =
         let us : unacked_of r o' ≡ unacked_of x o ++ (fresh x.next b ∷ []) = a.repacked.unacked in
@@ -93,5 +93,5 @@ module _ (b : Bytes) (x : Outbox) (o : Bytes) (exact : ExactOutbox x (length o))
           exact = a.repacked.exact;
           bytes = a.repacked.bytes ∙ ap (λ (ms : List R.Unacked). repacked (end_u x) (packed body_of ms) o) (sym us);
           size = a.repacked.size;
-          kept = λ y e. let z : ◌≡◌ {A = ℕ} 0 1 = cc in absurd (omega arith);
+          kept = λ y e. cc;
         }

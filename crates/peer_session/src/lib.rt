@@ -7,7 +7,7 @@ ghost use Rattle.numbers.specs.Seats.{Holds};
 ghost use Rattle.outbox.specs.View.{ExactOutbox};
 ghost use Rattle.queue.specs.View.{ExactQueue};
 ghost use Rattle.peer_session.specs.Allocates.{Allocates};
-ghost use Rattle.peer_session.specs.Breaks.{failed_in, Broken};
+ghost use Rattle.peer_session.specs.Breaks.{Broken};
 ghost use Rattle.peer_session.specs.View.{held};
 ghost use Rattle.peer_session.specs.Sound.{sound_acks, sound_sizes, Checked};
 ghost use Rattle.peer_session.specs.New.{New, nothing, NoMessages, NoFrames, NoHandoff};
@@ -206,72 +206,38 @@ pub fn no_handoff() -> TerminalHandoff
 
 // ---- sending
 
-// The outbox, with the refusal that left it as it was.
-#[derive(Clone, Copy)]
-pub struct Allocated {
-    pub outbox: Outbox,
-    pub stop: Option<Refusal>,
-}
-
-// A message gets the next number, and joins the unacked as pending.
-pub fn allocate(o: Outbox, store: &mut [u8], body: &[u8]) -> Allocated
+// A message gets the next number, and joins the unacked as pending. A refusal leaves the outbox and its store.
+pub fn allocate(o: Outbox, store: &mut [u8], body: &[u8]) -> Result<Outbox, Refusal>
     requires { ExactOutbox o (length store.old) }
     ensures { Allocates body.now o store.old result store.new }
 {
     if SessionState::LAST_MESSAGE < o.next {
-        return Allocated {
-            outbox: o,
-            stop: Some(Refusal::NumbersExhausted),
-        };
+        return Err(Refusal::NumbersExhausted);
     }
     if SessionState::MAX_UNACKED <= o.count {
-        return Allocated {
-            outbox: o,
-            stop: Some(Refusal::UnackedFull),
-        };
+        return Err(Refusal::UnackedFull);
     }
     let at = outbox::used(o);
     if SessionState::OUTBOUND_BYTES - at < body.len() {
-        return Allocated {
-            outbox: o,
-            stop: Some(Refusal::UnackedFull),
-        };
+        return Err(Refusal::UnackedFull);
     }
     let more = outbox::append(o, store, at, body);
-    Allocated {
-        outbox: more,
-        stop: None,
-    }
+    Ok(more)
 }
 
 // ---- a refusal of data or of an ack
-
-// A channel fails by it.
-fn failed_in(mode: ReceiveMode, before: bool) -> bool
-    ensures { result ≡ failed_in mode before }
-{
-    match mode {
-        ReceiveMode::Raw => before,
-        ReceiveMode::Proposal => before,
-        ReceiveMode::Channel => true,
-        ReceiveMode::Rejection => before,
-        ReceiveMode::Retiring => before,
-    }
-}
 
 // The Rust's `failure` but for its notice: the queue is emptied, and failed is set in Channel mode.
 pub fn broken(s: SessionState, queue: &mut [u8]) -> SessionState
     requires { ExactQueue s.queue (length queue.old) }
     ensures { Broken s queue.old result queue.new }
 {
-    let q = s.queue;
-    let none = queue::clear(q, queue);
-    let g = s.stage;
-    let mode = g.mode;
-    let failed = failed_in(mode, g.failed);
+    let none = queue::clear(s.queue, queue);
     let mut r = s;
     r.queue = none;
-    r.stage.failed = failed;
+    if matches!(s.stage.mode, ReceiveMode::Channel) {
+        r.stage.failed = true;
+    }
     r
 }
 

@@ -16,15 +16,15 @@ use Rattle.rules.specs.Progress.{stays, halts, request, outcome}
 use Rattle.rules.specs.Sending.{allocate, send}
 use Rattle.rules.specs.Calls.{sends, step}
 use Rattle.rules.specs.Buffers.{taken_by, short, wrong_code, queue_reach, repacked}
-use Rattle.std.specs.Prelude.{Option, None, Some}
-use Rattle.events.specs.Written.{Listed, asked, ended}
-use Rattle.outbox.specs.View.{unacked_of, outbox_of}
+use Rattle.std.specs.Prelude.{Ok, Err}
+use Rattle.events.specs.Written.{Listed, asked}
+use Rattle.outbox.specs.View.{unacked_of}
 use Rattle.outbox.proofs.View.{exact-total}
-use Rattle.peer_session.specs.declared.Allocated.{Allocated}
+use Rattle.outbox.specs.declared.Outbox.{Outbox}
 use Rattle.peer_session.specs.declared.SessionState.{SessionState}
 use Rattle.peer_session.specs.View.{state_of, Exact}
 use Rattle.peer_session.specs.Sound.{sound_of, Full}
-use Rattle.peer_session.specs.Allocates.{grown, Allocates}
+use Rattle.peer_session.specs.Allocates.{Allocates}
 use Rattle.peer_session.proofs.View.{exact-held}
 use Rattle.session.specs.declared.Returned.{Returned}
 use Rattle.session.specs.Promise.{lent, Called, Turned}
@@ -49,6 +49,23 @@ module _ (b : Bytes) (t : R.State) where
   sent r h e = rw (lt-leb 4294966000 t.clock.generation h, e)
 
 -- ---- the call
+
+-- the session with the message
+abbrev next : SessionState → Outbox → SessionState
+next s more =
+    record {
+      outbox = more;
+      remote = s.remote;
+      released = s.released;
+      queue = s.queue;
+      waiting = s.waiting;
+      retry = s.retry;
+      clock = record { last_replay_at = s.clock.last_replay_at; generation = s.clock.generation + 1; released = s.clock.released; persisted = s.clock.persisted };
+      stage = s.stage;
+      handoff = s.handoff;
+      policy = s.policy;
+      reject = s.reject;
+    }
 
 module _ (s : SessionState) (l : List ℕ) (o b d q : Bytes) where
   pub list-short : {r : Returned} → Turned s ShortBuffer r → length l < 4096 → Called (sends b) s (lent l d o q) r (lent l d o q)
@@ -79,54 +96,31 @@ module _ (s : SessionState) (l : List ℕ) (o b d q : Bytes) where
       unfolding queue_reach
       exhausted t h = is_refused (sends b) s (lent l d o q) long known t sound in_order refl (spent b (state_of s o q) h)
 
-      module _ (h : s.clock.generation < 4294966000) (a : Allocated) (o' : Bytes) (done : Allocates b s.outbox o a o') where
-        pub refused : {r : Returned} (x : Refusal) → Turned s x r → a.stop ≡ Some x → Called (sends b) s (lent l d o q) r (lent l d o' q)
+      module _ (h : s.clock.generation < 4294966000) {o' : Bytes} where
+        pub refused : {r : Returned} {x : Refusal} → Allocates b s.outbox o (Err x) o' → Turned s x r → Called (sends b) s (lent l d o q) r (lent l d o' q)
         unfolding queue_reach
-        refused {r} x t e =
-            let k : o' ≡ o = done.kept x e in
-            let f : allocate b s.stage.disposition (state_of s o q) ≡ halts x (state_of s o q) =
-            done.does (state_of s o q) s.stage.disposition refl
-            ∙ ap (λ (y : Option Refusal). ended y (grown y s.stage.disposition (outbox_of a.outbox o') (state_of s o q))) e in
-            rw k (is_refused (sends b) s (lent l d o q) long known t sound in_order refl (stopped b (state_of s o q) x h f))
+        refused {x = x} a t =
+            let k : o' ≡ o = a.kept x refl in
+            rw k (is_refused (sends b) s (lent l d o q) long known t sound in_order refl (stopped b (state_of s o q) x h (a.does (state_of s o q) s.stage.disposition refl)))
 
-        -- the session with the message
-        abbrev next : SessionState
-        next =
-            record {
-              outbox = a.outbox;
-              remote = s.remote;
-              released = s.released;
-              queue = s.queue;
-              waiting = s.waiting;
-              retry = s.retry;
-              clock = record { last_replay_at = s.clock.last_replay_at; generation = s.clock.generation + 1; released = s.clock.released; persisted = s.clock.persisted };
-              stage = s.stage;
-              handoff = s.handoff;
-              policy = s.policy;
-              reject = s.reject;
-            }
-
-        pub went : (l' : List ℕ) (n : ℕ) → a.stop ≡ None → Listed (asked next.clock) l 0 l' n
-            → Called (sends b) s (lent l d o q) (record { session = next; answer = Number s.outbox.next; events = n }) (lent l' d o' q)
+        pub went : {more : Outbox} → Allocates b s.outbox o (Ok more) o' → {l' : List ℕ} {n : ℕ} → Listed (asked (next s more).clock) l 0 l' n
+            → Called (sends b) s (lent l d o q) (record { session = next s more; answer = Number s.outbox.next; events = n }) (lent l' d o' q)
         unfolding taken_by
-        went l' n e li =
+        went {more} a li =
             let i : Entered s o q = in_order in
             let ex : Exact s (length o) (length q) = i.good.exact in
-            let f : allocate b s.stage.disposition (state_of s o q) ≡ stays (state_of next o' q) =
-            done.does (state_of s o q) s.stage.disposition refl
-            ∙ ap (λ (y : Option Refusal). ended y (grown y s.stage.disposition (outbox_of a.outbox o') (state_of s o q))) e in
-            let us : List R.Unacked = unacked_of a.outbox o' in
-            meets (sends b) s (lent l d o q) long known {r = next} sound
+            let us : List R.Unacked = unacked_of more o' in
+            meets (sends b) s (lent l d o q) long known {r = next s more} sound
             (record {
-              left = state_of next o' q;
-              events = asked next.clock;
-              does = sent b (state_of s o q) (state_of next o' q) h f;
-              session = exact-held next o' q (record { outbox = done.exact; queued = ex.queued; rest = record { waiting = ex.rest.waiting; retry = ex.rest.retry; handoff = ex.rest.handoff; handed = ex.rest.handed; reject = ex.rest.reject; rejects = ex.rest.rejects } });
+              left = state_of (next s more) o' q;
+              events = asked (next s more).clock;
+              does = sent b (state_of s o q) (state_of (next s more) o' q) h (a.does (state_of s o q) s.stage.disposition refl);
+              session = exact-held (next s more) o' q (record { outbox = a.exact; queued = ex.queued; rest = record { waiting = ex.rest.waiting; retry = ex.rest.retry; handoff = ex.rest.handoff; handed = ex.rest.handed; reject = ex.rest.reject; rejects = ex.rest.rejects } });
               count = (li us).count ∙ omega arith;
               list = list_written (li us);
               delivery = refl;
               outbound =
-                  done.bytes
+                  a.bytes
                   ∙ ap (λ (k : ℕ). repacked k (packed body_of us) o) (exact-total s.outbox o ex.outbox);
               queue = refl;
             })

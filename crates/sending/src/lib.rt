@@ -24,24 +24,18 @@ pub fn send_message(s: SessionState, list: &mut [u64], outbound: &mut [u8], body
     if SessionState::GENERATION_LIMIT <= s.clock.generation {
         return session::refused(s, Refusal::GenerationsExhausted);
     }
-    let o = s.outbox;
-    let a = peer_session::allocate(o, outbound, body);
-    let stop = a.stop;
-    match stop {
-        Some(x) => session::refused(s, x),
-        None => {
-            let more = a.outbox;
-            let generation = s.clock.generation + 1;
+    match peer_session::allocate(s.outbox, outbound, body) {
+        Ok(more) => {
             let mut r = s;
             r.outbox = more;
-            r.clock.generation = generation;
-            let c = r.clock;
-            let n = events::request(c, list, 0);
+            r.clock.generation = s.clock.generation + 1;
+            let n = events::request(r.clock, list, 0);
             Returned {
                 session: r,
-                answer: Answer::Number(o.next),
+                answer: Answer::Number(s.outbox.next),
                 events: n,
             }
         }
+        Err(x) => session::refused(s, x),
     }
 }

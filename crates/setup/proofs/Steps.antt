@@ -18,19 +18,17 @@ use Rattle.rules.specs.Sending.{allocate}
 use Rattle.rules.specs.Setup.{waiting_with}
 use Rattle.rules.specs.Buffers.{repacked}
 use Rattle.rules.proofs.Buffers.{repacked-same}
-use Rattle.std.specs.Prelude.{Option, None, Some}
-use Rattle.events.specs.Written.{asked, ended}
+use Rattle.std.specs.Prelude.{Ok, Err}
+use Rattle.events.specs.Written.{asked}
 use Rattle.events.proofs.Laws.{listed-none}
 use Rattle.outbox.specs.declared.Outbox.{Outbox}
-use Rattle.outbox.specs.View.{end_u, unacked_of, outbox_of, ExactOutbox}
+use Rattle.outbox.specs.View.{end_u, unacked_of, ExactOutbox}
 use Rattle.outbox.proofs.View.{packed-unacked}
-use Rattle.peer_session.specs.declared.Allocated.{Allocated}
 use Rattle.peer_session.specs.declared.SessionState.{SessionState}
 use Rattle.peer_session.specs.View.{reject_of, state_of, Exact}
-use Rattle.peer_session.specs.Allocates.{grown, Allocates}
+use Rattle.peer_session.specs.Allocates.{Allocates}
 use Rattle.session.specs.declared.Returned.{Returned}
 use Rattle.session.specs.Promise.{Turned}
-use Rattle.setup.specs.declared.Joined.{Joined}
 use Rattle.setup.specs.Steps.{Joins, Asks, staged, waiting_in, Comes, proposing, rejecting}
 
 -- ---- a session that differs in what no store depends on
@@ -58,102 +56,98 @@ turned_is t = returned_cong t.session t.answer t.events
 
 -- ---- a message that joins
 
-module _ (b : Bytes) (d : ℕ) (s : SessionState) (o : Bytes) (a : Allocated) (o' : Bytes) (ready : ExactOutbox s.outbox (length o)) (done : Allocates b s.outbox o a o') where
-  allocated : (q : Bytes) (y : Option Refusal) → a.stop ≡ y → allocate b d (state_of s o q) ≡ ended y (grown y d (outbox_of a.outbox o') (state_of s o q))
-  allocated q y e =
-      done.does (state_of s o q) d refl
-      ∙ ap (λ (z : Option Refusal). ended z (grown z d (outbox_of a.outbox o') (state_of s o q))) e
+-- the session with the message
+abbrev next : ℕ → SessionState → Outbox → SessionState
+next d s y =
+    record {
+      outbox = y;
+      remote = s.remote;
+      released = s.released;
+      queue = s.queue;
+      waiting = s.waiting;
+      retry = s.retry;
+      clock = record { last_replay_at = s.clock.last_replay_at; generation = s.clock.generation + 1; released = s.clock.released; persisted = s.clock.persisted };
+      stage = record { disposition = d; setup = s.stage.setup; mode = s.stage.mode; failed = s.stage.failed };
+      handoff = s.handoff;
+      policy = s.policy;
+      reject = s.reject;
+    }
 
-  pub joins_not : (x : Refusal) → a.stop ≡ Some x → Joins b d s o (record { session = s; stop = Some x }) o'
-  joins_not x e =
-      let k : o' ≡ o = done.kept x e in
+module _ {b : Bytes} {d : ℕ} {s : SessionState} {o o' : Bytes} where
+  pub joins_not : {x : Refusal} → Allocates b s.outbox o (Err x) o' → Joins b d s o (Err x) o'
+  joins_not {x} a =
+      let k : o' ≡ o = a.kept x refl in
+      let e : o' ≡ repacked (end_u s.outbox) (packed body_of (unacked_of s.outbox o')) o = a.bytes in
       rw k
       (record {
-        does = λ q. allocated q (Some x) e;
+        does = λ q. a.does (state_of s o q) d refl;
         exact = λ size ex. ex;
-        bytes = stays-packed s.outbox o ready;
+        bytes = rw k at e;
         queue = refl;
+        kept = λ y z. refl;
       })
 
-  abbrev next : SessionState
-  next =
+  pub joins : {y : Outbox} → Allocates b s.outbox o (Ok y) o' → Joins b d s o (Ok (next d s y)) o'
+  joins a =
       record {
-        outbox = a.outbox;
-        remote = s.remote;
-        released = s.released;
-        queue = s.queue;
-        waiting = s.waiting;
-        retry = s.retry;
-        clock = record { last_replay_at = s.clock.last_replay_at; generation = s.clock.generation + 1; released = s.clock.released; persisted = s.clock.persisted };
-        stage = record { disposition = d; setup = s.stage.setup; mode = s.stage.mode; failed = s.stage.failed };
-        handoff = s.handoff;
-        policy = s.policy;
-        reject = s.reject;
-      }
-
-  pub joins : a.stop ≡ None → Joins b d s o (record { session = next; stop = None }) o'
-  joins e =
-      record {
-        does = λ q. allocated q None e;
+        does = λ q. a.does (state_of s o q) d refl;
         exact = λ size ex.
             record {
-              outbox = done.exact;
+              outbox = a.exact;
               queued = ex.queued;
               rest = record { waiting = ex.rest.waiting; retry = ex.rest.retry; handoff = ex.rest.handoff; handed = ex.rest.handed; reject = ex.rest.reject; rejects = ex.rest.rejects };
             };
-        bytes = done.bytes;
+        bytes = a.bytes;
         queue = refl;
+        kept = λ x e. cc;
       }
 
 -- ---- what follows it
 
-module _ {b : Bytes} {d : ℕ} {s : SessionState} {o : Bytes} {a : Joined} {o' : Bytes} (j : Joins b d s o a o') where
-  pub joined : (y : Option Refusal) → a.stop ≡ y → (q : Bytes) → allocate b d (state_of s o q) ≡ ended y (state_of a.session o' q)
-  joined y e q = j.does q ∙ ap (λ (z : Option Refusal). ended z (state_of a.session o' q)) e
-
-  -- a refusal ends whatever would follow
-  pub stopped : {rule : R.State → Outcome} {l : List ℕ} {r : Returned} {x : Refusal} → a.stop ≡ Some x → Turned a.session x r
-      → ((q : Bytes) (u : R.State) → allocate b d (state_of s o q) ≡ halts x u → rule (state_of s o q) ≡ outcome u (Refused x) []) → Comes rule s l o r l o'
-  stopped {l = l} {x = x} e t f =
-      rw (turned_is t)
-      (record {
-        shown = [];
-        does = λ q. f q (state_of a.session o' q) (joined (Some x) e q);
-        exact = j.exact;
-        bytes = j.bytes;
-        queue = j.queue;
-        listed = λ us. listed-none l 0;
-      })
+-- a refusal ends whatever would follow
+pub stopped : {b : Bytes} {d : ℕ} {s : SessionState} {o o' : Bytes} {x : Refusal} → Joins b d s o (Err x) o'
+    → {rule : R.State → Outcome} {l : List ℕ} {r : Returned} → Turned s x r
+    → ((q : Bytes) (u : R.State) → allocate b d (state_of s o q) ≡ halts x u → rule (state_of s o q) ≡ outcome u (Refused x) []) → Comes rule s l o r l o'
+stopped {s = s} {o' = o'} j {l = l} t f =
+    rw (turned_is t)
+    (record {
+      shown = [];
+      does = λ q. f q (state_of s o' q) (j.does q);
+      exact = j.exact;
+      bytes = j.bytes;
+      queue = j.queue;
+      listed = λ us. listed-none l 0;
+    })
 
 -- a proposal
-module _ (terms : Terms) (b : Bytes) (s : SessionState) (l : List ℕ) (o : Bytes) (a : Joined) (o' : Bytes) (j : Joins b 1 s o a o') where
-  pub proposal_stopped : {r : Returned} (x : Refusal) → a.stop ≡ Some x → Turned a.session x r → Comes (proposing terms b) s l o r l o'
-  proposal_stopped x e t = stopped j e t (λ q u h. ap (λ (p : Progress). answers Done (p then waiting_with terms)) h)
+module _ (terms : Terms) {b : Bytes} {s : SessionState} {l : List ℕ} {o o' : Bytes} {r : Returned} where
+  pub proposal_stopped : {x : Refusal} → Joins b 1 s o (Err x) o' → Turned s x r → Comes (proposing terms b) s l o r l o'
+  proposal_stopped j t = stopped j t (λ q u h. ap (λ (p : Progress). answers Done (p then waiting_with terms)) h)
 
-  pub proposed : {r : Returned} → a.stop ≡ None → r ≡ waiting_in 1 terms a.session → Comes (proposing terms b) s l o r l o'
-  proposed e h =
+  pub proposed : {a : SessionState} → Joins b 1 s o (Ok a) o' → r ≡ waiting_in 1 terms a → Comes (proposing terms b) s l o r l o'
+  proposed {a} j h =
       rw h
       (record {
         shown = [];
-        does = λ q. ap (λ (p : Progress). answers Done (p then waiting_with terms)) (joined j None e q);
-        exact = λ size ex. exact-staged 1 _ a.session (j.exact size ex);
+        does = λ q. ap (λ (p : Progress). answers Done (p then waiting_with terms)) (j.does q);
+        exact = λ size ex. exact-staged 1 _ a (j.exact size ex);
         bytes = j.bytes;
         queue = j.queue;
         listed = λ us. listed-none l 0;
       })
 
 -- a rejection
-module _ (s : SessionState) (l : List ℕ) (o : Bytes) (a : Joined) (o' : Bytes) (j : Joins (reject_of s.reject) 4 s o a o') where
-  pub rejection_stopped : {r : Returned} (x : Refusal) → a.stop ≡ Some x → Turned a.session x r → Comes rejecting s l o r l o'
-  rejection_stopped x e t = stopped j e t (λ q u h. ap (λ (p : Progress). answers Done (p then request)) h)
+module _ {s : SessionState} {l : List ℕ} {o o' : Bytes} {r : Returned} where
+  pub rejection_stopped : {x : Refusal} → Joins (reject_of s.reject) 4 s o (Err x) o' → Turned s x r → Comes rejecting s l o r l o'
+  rejection_stopped j t = stopped j t (λ q u h. ap (λ (p : Progress). answers Done (p then request)) h)
 
-  pub rejected : {r : Returned} {l' : List ℕ} → a.stop ≡ None → Asks a.session l r l' → Comes rejecting s l o r l' o'
+  pub rejected : {a : SessionState} {l' : List ℕ} → Joins (reject_of s.reject) 4 s o (Ok a) o' → Asks a l r l' → Comes rejecting s l o r l' o'
   unfolding request
-  rejected {r} e h =
+  rejected {a} j h =
       rw h.is
       (record {
-        shown = asked a.session.clock;
-        does = λ q. ap (λ (p : Progress). answers Done (p then request)) (joined j None e q);
+        shown = asked a.clock;
+        does = λ q. ap (λ (p : Progress). answers Done (p then request)) (j.does q);
         exact = j.exact;
         bytes = j.bytes;
         queue = j.queue;

@@ -1,5 +1,6 @@
 -- The contracts of the steps of a setup. Assumes nothing.
-use Rattle.std.specs.Prelude.{ℕ, ◌<◌, ◌≡◌, List, [], length}
+use Rattle.std.specs.Prelude.{ℕ, ◌<◌, ◌≡◌, List, [], length, Result, Err}
+use Rattle.rules.specs.declared.Refusal.{Refusal}
 use Rattle.rules.specs.declared.Terms.{Terms}
 use Rattle.rules.specs.declared.Setup.{Setup}
 use Rattle.rules.specs.declared.Setup.TheVariants.{Waiting}
@@ -13,25 +14,25 @@ use Rattle.rules.specs.Progress.{◌then◌, request, Outcome, outcome, answers}
 use Rattle.rules.specs.Sending.{allocate}
 use Rattle.rules.specs.Setup.{waiting_with, reject_session, retired, clear_runtime}
 use Rattle.rules.specs.Buffers.{repacked}
-use Rattle.events.specs.Written.{Listed, asked, ended}
+use Rattle.events.specs.Written.{Listed, asked, ended, stopped_by, reached}
 use Rattle.outbox.specs.View.{end_u, unacked_of, ExactOutbox}
 use Rattle.queue.specs.View.{Repacked}
 use Rattle.peer_session.specs.declared.SessionState.{SessionState}
 use Rattle.peer_session.specs.View.{state_of, Exact}
 use Rattle.session.specs.declared.Returned.{Returned}
-use Rattle.setup.specs.declared.Joined.{Joined}
 
 -- what a message that joins asks of a session
 pub record Ready (s : SessionState) (size : ℕ) : Type 0 where
   pub exact : ExactOutbox s.outbox size
   pub low : s.clock.generation < 4294966000
 
--- a message with body b joins, under disposition d, whatever the queue store holds
-pub record Joins (b : Bytes) (d : ℕ) (s : SessionState) (o : Bytes) (r : Joined) (o' : Bytes) : Type 0 where
-  pub does : (q : Bytes) → allocate b d (state_of s o q) ≡ ended r.stop (state_of r.session o' q)
-  pub exact : (size : ℕ) → Exact s (length o) size → Exact r.session (length o') size
-  pub bytes : o' ≡ repacked (end_u s.outbox) (packed body_of (unacked_of r.session.outbox o')) o
-  pub queue : r.session.queue ≡ s.queue
+-- a message with body b joins, under disposition d, whatever the queue store holds; a refusal leaves session and store
+pub record Joins (b : Bytes) (d : ℕ) (s : SessionState) (o : Bytes) (r : Result SessionState Refusal) (o' : Bytes) : Type 0 where
+  pub does : (q : Bytes) → allocate b d (state_of s o q) ≡ ended (stopped_by r) (state_of (reached s r) o' q)
+  pub exact : (size : ℕ) → Exact s (length o) size → Exact (reached s r) (length o') size
+  pub bytes : o' ≡ repacked (end_u s.outbox) (packed body_of (unacked_of (reached s r).outbox o')) o
+  pub queue : (reached s r).queue ≡ s.queue
+  pub kept : (x : Refusal) → r ≡ Err x → o' ≡ o
 
 -- a session that is done, and what is requested for it
 pub record Asks (s : SessionState) (l : List ℕ) (r : Returned) (l' : List ℕ) : Type 0 where

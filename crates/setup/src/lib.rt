@@ -9,45 +9,28 @@ ghost use Rattle.outbox.specs.View.{ExactOutbox};
 ghost use Rattle.session.specs.Promise.{CalledWithOutbound, CalledWithOutboundAlone, CalledWithStoresAlone, CalledAlone};
 ghost use Rattle.setup.specs.Steps.{Ready, Joins, Asks, staged, waiting_in, Comes, proposing, rejecting, Retires, Forgets};
 
-use peer_session::{SessionState, Stage};
+use peer_session::SessionState;
 use rules::{Answer, Refusal, Setup, Terms};
 use session::Returned;
 
 // ---- steps
 
-// The session, with the refusal that left it as it was.
-#[derive(Clone, Copy)]
-pub struct Joined {
-    pub session: SessionState,
-    pub stop: Option<Refusal>,
-}
-
-// A message gets the next number, under a disposition.
-pub fn join(s: SessionState, outbound: &mut [u8], disposition: u8, body: &[u8]) -> Joined
+// A message gets the next number, under a disposition. A refusal leaves the session and its store.
+pub fn join(
+    s: SessionState,
+    outbound: &mut [u8],
+    disposition: u8,
+    body: &[u8],
+) -> Result<SessionState, Refusal>
     requires { Ready s (length outbound.old) }
     ensures { Joins body.now disposition s outbound.old result outbound.new }
 {
-    let o = s.outbox;
-    let a = peer_session::allocate(o, outbound, body);
-    let stop = a.stop;
-    match stop {
-        Some(x) => Joined {
-            session: s,
-            stop: Some(x),
-        },
-        None => {
-            let more = a.outbox;
-            let generation = s.clock.generation + 1;
-            let mut r = s;
-            r.outbox = more;
-            r.clock.generation = generation;
-            r.stage.disposition = disposition;
-            Joined {
-                session: r,
-                stop: None,
-            }
-        }
-    }
+    let more = peer_session::allocate(s.outbox, outbound, body)?;
+    let mut r = s;
+    r.outbox = more;
+    r.clock.generation = s.clock.generation + 1;
+    r.stage.disposition = disposition;
+    Ok(r)
 }
 
 // Done, with a commit request where something is left to commit.
@@ -55,8 +38,7 @@ pub fn done(s: SessionState, list: &mut [u64]) -> Returned
     requires { 4096 ≤ length list.old }
     ensures { Asks s list.old result list.new }
 {
-    let c = s.clock;
-    let n = events::request(c, list, 0);
+    let n = events::request(s.clock, list, 0);
     Returned {
         session: s,
         answer: Answer::Done,
@@ -68,16 +50,9 @@ pub fn done(s: SessionState, list: &mut [u64]) -> Returned
 pub fn set_up(s: SessionState, disposition: u8, setup: Setup) -> SessionState
     ensures { result ≡ staged disposition setup s }
 {
-    let g = s.stage;
-    let mode = g.mode;
-    let stage = Stage {
-        disposition: disposition,
-        setup: setup,
-        mode: mode,
-        failed: g.failed,
-    };
     let mut r = s;
-    r.stage = stage;
+    r.stage.disposition = disposition;
+    r.stage.setup = setup;
     r
 }
 
@@ -86,12 +61,7 @@ pub fn set_up(s: SessionState, disposition: u8, setup: Setup) -> SessionState
 fn no_setup(setup: Setup) -> bool
     ensures { result ≡ is_none setup }
 {
-    match setup {
-        Setup::None => true,
-        Setup::Waiting(_) => false,
-        Setup::Started => false,
-        Setup::Retired => false,
-    }
+    matches!(setup, Setup::None)
 }
 
 // Active, and waiting with terms.
@@ -112,12 +82,9 @@ fn propose(s: SessionState, outbound: &mut [u8], terms: Terms, body: &[u8]) -> R
     requires { Ready s (length outbound.old) }
     ensures { (l : List ℕ) → Comes (proposing terms body.now) s l outbound.old result l outbound.new }
 {
-    let a = join(s, outbound, 1, body);
-    let r = a.session;
-    let stop = a.stop;
-    match stop {
-        Some(x) => session::refused(r, x),
-        None => accepted(r, terms),
+    match join(s, outbound, 1, body) {
+        Ok(r) => accepted(r, terms),
+        Err(x) => session::refused(s, x),
     }
 }
 
@@ -134,9 +101,7 @@ pub fn accept_session(s: SessionState, outbound: &mut [u8], terms: Terms, body: 
     if SessionState::GENERATION_LIMIT <= s.clock.generation {
         return session::refused(s, Refusal::GenerationsExhausted);
     }
-    let g = s.stage;
-    let setup = g.setup;
-    if !no_setup(setup) {
+    if !no_setup(s.stage.setup) {
         return session::refused(s, Refusal::AlreadyAccepted);
     }
     if !terms.initiator {
@@ -157,12 +122,9 @@ fn send_reject(s: SessionState, list: &mut [u64], outbound: &mut [u8]) -> Return
 {
     let bytes = s.reject.bytes;
     let len = s.reject.len;
-    let a = join(s, outbound, 4, &bytes[..len]);
-    let r = a.session;
-    let stop = a.stop;
-    match stop {
-        Some(x) => session::refused(r, x),
-        None => done(r, list),
+    match join(s, outbound, 4, &bytes[..len]) {
+        Ok(r) => done(r, list),
+        Err(x) => session::refused(s, x),
     }
 }
 
@@ -194,9 +156,7 @@ pub fn prepare_channel(s: SessionState, terms: Terms) -> Returned
     if !peer_session::sound(s) {
         return session::refused(s, Refusal::BadRecord);
     }
-    let g = s.stage;
-    let setup = g.setup;
-    match setup {
+    match s.stage.setup {
         Setup::None => {
             let r = set_up(s, s.stage.disposition, Setup::Waiting(terms));
             Returned {
@@ -222,8 +182,7 @@ fn retired(s: SessionState, queue: &mut [u8]) -> SessionState
     requires { ExactQueue s.queue (length queue.old) }
     ensures { Retires s queue.old result queue.new }
 {
-    let q = s.queue;
-    let none = queue::clear(q, queue);
+    let none = queue::clear(s.queue, queue);
     let mut r = set_up(s, s.stage.disposition, Setup::Retired);
     r.queue = none;
     r.handoff.present = false;
@@ -235,8 +194,7 @@ fn forget(s: SessionState, outbound: &mut [u8]) -> SessionState
     requires { ExactOutbox s.outbox (length outbound.old) }
     ensures { Forgets s outbound.old result outbound.new }
 {
-    let o = s.outbox;
-    let none = outbox::discard(o, outbound);
+    let none = outbox::discard(s.outbox, outbound);
     let generation = s.clock.generation;
     let mut r = s;
     r.outbox = none;
@@ -251,10 +209,7 @@ fn forget(s: SessionState, outbound: &mut [u8]) -> SessionState
 fn retains(retain: bool, disposition: u8) -> bool
     ensures { result ≡ (retain && eqb disposition 4) }
 {
-    if !retain {
-        return false;
-    }
-    disposition == 4
+    retain && disposition == 4
 }
 
 // The session ends. The answer is whether its rejection is retained.

@@ -1,10 +1,10 @@
 use Rattle.link_handoffs.proofs.Commands.{exact_in, low_in}
-use Rattle.link_handoffs.proofs.Steps.{stopped, went}
+use Rattle.link_handoffs.proofs.Steps.{stopped, goes}
 use native.Mathlib.Omega.{arith}
 use Rattle.link_handoffs.proofs.hand_off.Goals as goal
 
-pub allocate-stop-requires : goal.allocate-stop-requires
-allocate-stop-requires c = exact_in c.args.words.now c.args.halves.now c.args.bytes.now c.args.clock.now c.args.outbound.now c.requires.0
+pub allocate-requires : goal.allocate-requires
+allocate-requires c = exact_in c.args.words.now c.args.halves.now c.args.bytes.now c.args.clock.now c.args.outbound.now c.requires.0
 
 pub overflow_add-halves : goal.overflow_add-halves
 overflow_add-halves c = omega (arith, low_in c.args.words.now c.args.halves.now c.args.bytes.now c.args.clock.now c.args.outbound.now c.requires.0)
@@ -15,8 +15,8 @@ hand-requires c = c.requires.2
 pub done-requires : goal.done-requires
 done-requires c = omega (arith, c.requires.0.list)
 
-pub returns-in-Some : goal.returns-in-Some
-returns-in-Some c = stopped c.args.words.now c.args.halves.now c.args.bytes.now c.args.clock.now c.args.list.now c.args.outbound.now c.args.body.now c.args.id c.requires.0 c.requires.1 _ c.allocate-stop.ensures c.in-Some.is c.refusal.ensures
+pub returns-in-Ok : goal.returns-in-Ok
+returns-in-Ok c = goes c.args.words.now c.args.halves.now c.args.bytes.now c.args.clock.now c.args.list.now c.args.outbound.now c.args.body.now c.args.id c.requires.0 c.requires.1 c.full_halves.ensures c.in-Ok.ensures c.hand.ensures c.done.ensures
 
-pub returns-in-None : goal.returns-in-None
-returns-in-None c = went c.args.words.now c.args.halves.now c.args.bytes.now c.args.clock.now c.args.list.now c.args.outbound.now c.args.body.now c.args.id c.requires.0 c.requires.1 c.full_halves.ensures c.allocate-stop.ensures c.in-None.is c.hand.ensures c.done.ensures
+pub returns-in-Err : goal.returns-in-Err
+returns-in-Err c = stopped c.args.words.now c.args.halves.now c.args.bytes.now c.args.clock.now c.args.list.now c.args.outbound.now c.args.body.now c.args.id c.requires.0 c.requires.1 c.in-Err.ensures c.refusal.ensures

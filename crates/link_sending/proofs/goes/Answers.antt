@@ -2,8 +2,8 @@ use native.Mathlib.Omega.{arith}
 use Rattle.link_sending.proofs.Sends.{went, stopped, exact-outbox, low_generation}
 use Rattle.link_sending.proofs.goes.Goals as goal
 
-pub allocate-stop-requires : goal.allocate-stop-requires
-allocate-stop-requires c = exact-outbox c.args.words.now c.args.halves.now c.args.bytes.now c.args.clock.now c.args.outbound.now c.requires
+pub allocate-requires : goal.allocate-requires
+allocate-requires c = exact-outbox c.args.words.now c.args.halves.now c.args.bytes.now c.args.clock.now c.args.outbound.now c.requires
 
 pub overflow_add-halves : goal.overflow_add-halves
 overflow_add-halves c = omega (arith, low_generation c.args.words.now c.args.halves.now c.args.bytes.now c.args.clock.now c.requires)
@@ -11,8 +11,8 @@ overflow_add-halves c = omega (arith, low_generation c.args.words.now c.args.hal
 pub request-n-requires : goal.request-n-requires
 request-n-requires c = omega (arith, c.requires.list)
 
-pub returns-in-Some : goal.returns-in-Some
-returns-in-Some c = stopped c.args.words.now c.args.halves.now c.args.bytes.now c.args.clock.now c.args.list.now c.args.outbound.now c.args.body.now c.requires _ c.allocate-stop.ensures c.in-Some.is c.refusal.ensures
+pub returns-in-Ok : goal.returns-in-Ok
+returns-in-Ok c = went c.args.words.now c.args.halves.now c.args.bytes.now c.args.clock.now c.args.list.now c.args.outbound.now c.args.body.now c.requires c.full_halves.ensures c.in-Ok.ensures c.clock_in-k.ensures c.request-n.ensures c.plain.ensures
 
-pub returns-in-None : goal.returns-in-None
-returns-in-None c = went c.args.words.now c.args.halves.now c.args.bytes.now c.args.clock.now c.args.list.now c.args.outbound.now c.args.body.now c.requires c.full_halves.ensures c.allocate-stop.ensures c.in-None.is c.clock_in-k.result c.clock_in-k.ensures c.request-n.new.list c.request-n.result c.request-n.ensures c.plain.ensures
+pub returns-in-Err : goal.returns-in-Err
+returns-in-Err c = stopped c.args.words.now c.args.halves.now c.args.bytes.now c.args.clock.now c.args.list.now c.args.outbound.now c.args.body.now c.requires c.in-Err.ensures c.refusal.ensures

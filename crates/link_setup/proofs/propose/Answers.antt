@@ -1,17 +1,17 @@
 use native.Mathlib.Omega.{arith}
 use Rattle.link_sound.proofs.Parts.{usable}
 use Rattle.link_setup.proofs.Joins.{low_half}
-use Rattle.link_setup.proofs.Accepts.{went, stopped}
+use Rattle.link_setup.proofs.Accepts.{proposes, stopped}
 use Rattle.link_setup.proofs.propose.Goals as goal
 
-pub allocate-stop-requires : goal.allocate-stop-requires
-allocate-stop-requires c = (usable c.args.words.now c.args.halves.now c.args.bytes.now c.args.clock.now c.requires.0.checked).unacked c.args.outbound.now c.requires.0.outbound
+pub allocate-requires : goal.allocate-requires
+allocate-requires c = (usable c.args.words.now c.args.halves.now c.args.bytes.now c.args.clock.now c.requires.0.checked).unacked c.args.outbound.now c.requires.0.outbound
 
 pub overflow_add-halves : goal.overflow_add-halves
 overflow_add-halves c = omega (arith, low_half c.args.words.now c.args.halves.now c.args.bytes.now c.args.clock.now c.requires.0.checked c.requires.0.low)
 
-pub returns-in-Some : goal.returns-in-Some
-returns-in-Some c = stopped c.args.words.now c.args.halves.now c.args.bytes.now c.args.clock.now c.args.terms c.args.outbound.now c.args.body.now c.requires.0 c.requires.1 _ c.allocate-stop.ensures c.in-Some.is c.refusal.ensures
+pub returns-in-Ok : goal.returns-in-Ok
+returns-in-Ok c = proposes c.args.words.now c.args.halves.now c.args.bytes.now c.args.clock.now c.args.terms c.args.outbound.now c.args.body.now c.requires.0 c.requires.1 c.full_halves.ensures c.in-Ok.ensures c.stage.ensures c.plain.ensures
 
-pub returns-in-None : goal.returns-in-None
-returns-in-None c = went c.args.words.now c.args.halves.now c.args.bytes.now c.args.clock.now c.args.terms c.args.outbound.now c.args.body.now c.requires.0 c.requires.1 c.full_halves.ensures c.allocate-stop.ensures c.in-None.is c.stage.ensures c.plain.ensures
+pub returns-in-Err : goal.returns-in-Err
+returns-in-Err c = stopped c.args.words.now c.args.halves.now c.args.bytes.now c.args.clock.now c.args.terms c.args.outbound.now c.args.body.now c.requires.0 c.requires.1 c.in-Err.ensures c.refusal.ensures

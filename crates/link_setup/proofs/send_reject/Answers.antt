@@ -12,8 +12,8 @@ slice_bounds-body-end c = body-within c.args.words.now c.args.halves.now c.args.
 pub slice_bounds-allocate-end : goal.slice_bounds-allocate-end
 slice_bounds-allocate-end c = sym (length-take-le c.reject_in-j.result.len c.reject_in-j.result.bytes (body-within c.args.words.now c.args.halves.now c.args.bytes.now c.args.clock.now c.args.outbound.now c.requires c.reject_in-j.result c.reject_in-j.ensures))
 
-pub allocate-stop-requires : goal.allocate-stop-requires
-allocate-stop-requires c = (usable c.args.words.now c.args.halves.now c.args.bytes.now c.args.clock.now c.requires.checked).unacked c.args.outbound.now c.requires.outbound
+pub allocate-requires : goal.allocate-requires
+allocate-requires c = (usable c.args.words.now c.args.halves.now c.args.bytes.now c.args.clock.now c.requires.checked).unacked c.args.outbound.now c.requires.outbound
 
 pub overflow_add-halves : goal.overflow_add-halves
 overflow_add-halves c = omega (arith, low_half c.args.words.now c.args.halves.now c.args.bytes.now c.args.clock.now c.requires.checked c.requires.low)
@@ -21,8 +21,8 @@ overflow_add-halves c = omega (arith, low_half c.args.words.now c.args.halves.no
 pub request-n-requires : goal.request-n-requires
 request-n-requires c = omega (arith, c.requires.list)
 
-pub returns-in-Some : goal.returns-in-Some
-returns-in-Some c = stopped c.args.words.now c.args.halves.now c.args.bytes.now c.args.clock.now c.args.list.now c.args.outbound.now c.requires c.reject_in-j.result c.reject_in-j.ensures _ c.allocate-stop.ensures c.in-Some.is c.refusal.ensures
+pub returns-in-Ok : goal.returns-in-Ok
+returns-in-Ok c = went c.args.words.now c.args.halves.now c.args.bytes.now c.args.clock.now c.args.list.now c.args.outbound.now c.requires c.reject_in-j.ensures c.full_halves.ensures c.in-Ok.ensures c.clock_in-k.ensures c.request-n.ensures c.plain.ensures
 
-pub returns-in-None : goal.returns-in-None
-returns-in-None c = went c.args.words.now c.args.halves.now c.args.bytes.now c.args.clock.now c.args.list.now c.args.outbound.now c.requires c.full_halves.ensures c.reject_in-j.result c.reject_in-j.ensures c.allocate-stop.ensures c.in-None.is c.clock_in-k.result c.clock_in-k.ensures c.request-n.new.list c.request-n.result c.request-n.ensures c.plain.ensures
+pub returns-in-Err : goal.returns-in-Err
+returns-in-Err c = stopped c.args.words.now c.args.halves.now c.args.bytes.now c.args.clock.now c.args.list.now c.args.outbound.now c.requires c.reject_in-j.ensures c.in-Err.ensures c.refusal.ensures

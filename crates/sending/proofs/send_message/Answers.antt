@@ -16,14 +16,14 @@ returns-then-not-sound c = λ d q lq. unsound c.args.s c.args.list.now c.args.ou
 pub returns-then-s-ge-GENERATION_LIMIT : goal.returns-then-s-ge-GENERATION_LIMIT
 returns-then-s-ge-GENERATION_LIMIT c = λ d q lq. exhausted c.args.s c.args.list.now c.args.outbound.now c.args.body.now d q c.if-list-lt-EVENT_WORDS.false c.if-outbound-lt-OUTBOUND_BYTES.false (sym c.sound.ensures.is ∙ c.if-not-sound.false) c.sound.ensures.full lq c.refused-then-s-ge-GENERATION_LIMIT.ensures c.if-s-ge-GENERATION_LIMIT.true
 
-pub allocate-a-requires : goal.allocate-a-requires
-allocate-a-requires c = (parts c.args.s (sym c.sound.ensures.is ∙ c.if-not-sound.false) c.sound.ensures.full).unacked c.args.outbound.now c.if-outbound-lt-OUTBOUND_BYTES.false
+pub allocate-requires : goal.allocate-requires
+allocate-requires c = (parts c.args.s (sym c.sound.ensures.is ∙ c.if-not-sound.false) c.sound.ensures.full).unacked c.args.outbound.now c.if-outbound-lt-OUTBOUND_BYTES.false
 
 pub request-n-requires : goal.request-n-requires
 request-n-requires c = omega (arith, c.if-list-lt-EVENT_WORDS.false)
 
-pub returns-in-Some : goal.returns-in-Some
-returns-in-Some c = λ d q lq. refused c.args.s c.args.list.now c.args.outbound.now c.args.body.now d q c.if-list-lt-EVENT_WORDS.false c.if-outbound-lt-OUTBOUND_BYTES.false (sym c.sound.ensures.is ∙ c.if-not-sound.false) c.sound.ensures.full lq c.if-s-ge-GENERATION_LIMIT.false c.allocate-a.result c.allocate-a.new.store c.allocate-a.ensures c.in-Some.x c.refused-in-Some.ensures c.in-Some.is
+pub returns-in-Ok : goal.returns-in-Ok
+returns-in-Ok c = λ d q lq. went c.args.s c.args.list.now c.args.outbound.now c.args.body.now d q c.if-list-lt-EVENT_WORDS.false c.if-outbound-lt-OUTBOUND_BYTES.false (sym c.sound.ensures.is ∙ c.if-not-sound.false) c.sound.ensures.full lq c.if-s-ge-GENERATION_LIMIT.false c.in-Ok.ensures c.request-n.ensures
 
-pub returns-in-None : goal.returns-in-None
-returns-in-None c = λ d q lq. went c.args.s c.args.list.now c.args.outbound.now c.args.body.now d q c.if-list-lt-EVENT_WORDS.false c.if-outbound-lt-OUTBOUND_BYTES.false (sym c.sound.ensures.is ∙ c.if-not-sound.false) c.sound.ensures.full lq c.if-s-ge-GENERATION_LIMIT.false c.allocate-a.result c.allocate-a.new.store c.allocate-a.ensures c.request-n.new.list c.request-n.result c.in-None.is c.request-n.ensures
+pub returns-in-Err : goal.returns-in-Err
+returns-in-Err c = λ d q lq. refused c.args.s c.args.list.now c.args.outbound.now c.args.body.now d q c.if-list-lt-EVENT_WORDS.false c.if-outbound-lt-OUTBOUND_BYTES.false (sym c.sound.ensures.is ∙ c.if-not-sound.false) c.sound.ensures.full lq c.if-s-ge-GENERATION_LIMIT.false c.in-Err.ensures c.refused-in-Err.ensures

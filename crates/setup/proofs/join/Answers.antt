@@ -1,8 +1,12 @@
+use mathlib.Core.Path.{◌≡◌}
+use Rattle.std.proofs.Common.{rules, Err}
 use Rattle.setup.proofs.Steps.{joins, joins_not}
 use Rattle.setup.proofs.join.Goals as goal
 
-pub returns-in-Some : goal.returns-in-Some
-returns-in-Some c = joins_not c.args.body.now c.args.disposition c.args.s c.args.outbound.now c.allocate-a.result c.allocate-a.new.store c.requires.exact c.allocate-a.ensures c.in-Some.x c.in-Some.is
+pub returns-in_err-more : goal.returns-in_err-more
+returns-in_err-more c =
+    let e : c.from_residual.result ≡ Err c.in_err-more.field-0.0 = search rules in
+    rw e (joins_not c.in_err-more.ensures)
 
-pub returns-in-None : goal.returns-in-None
-returns-in-None c = joins c.args.body.now c.args.disposition c.args.s c.args.outbound.now c.allocate-a.result c.allocate-a.new.store c.requires.exact c.allocate-a.ensures c.in-None.is
+pub returns : goal.returns
+returns c = joins c.in_ok-more.ensures
