@@ -3,6 +3,7 @@
 
 ghost use Rattle.std.specs.Prelude.{◌≡◌, Bool, true, false, ◌&&◌, ◌||◌, List, ℕ, ◌+◌, ◌*◌, ◌≤◌, ◌<◌, length, leb, eqb};
 ghost use Rattle.rules.specs.Acks.{report_data, report_ack};
+ghost use Rattle.rules.specs.Codes.{event_number};
 ghost use Rattle.rules.specs.Calls.{gets_ack, gets_keepalive, reports};
 ghost use Rattle.rules.specs.State.{is_raw};
 ghost use Rattle.events.specs.Written.{Listed};
@@ -13,18 +14,18 @@ ghost use Rattle.acks.specs.Reports.{Reports, full_of, MayRetry};
 
 use numbers::Numbers;
 use peer_session::SessionState;
-use rules::{Answer, Clock, FrameKind, ReceiveMode, Refusal};
+use rules::{Answer, Clock, EventCode, FrameKind, ReceiveMode, Refusal};
 use session::{Returned, Told};
 
 // ---- an ack
 
 // Lists event number n with a code and a number, where it is to go. Returns the next event's number.
-fn list_if(goes: bool, list: &mut [u64], n: usize, code: u64, number: u64) -> usize
+fn list_if(goes: bool, list: &mut [u64], n: usize, event: EventCode, number: u64) -> usize
     requires { 4 * n + 4 ≤ length list.old }
-    ensures { ListedIf goes code number list.old n list.new result }
+    ensures { ListedIf goes (event_number event) number list.old n list.new result }
 {
     if goes {
-        events::emit(list, n, code, number, 0, 0);
+        events::emit(list, n, event, number, 0, 0);
         return n + 1;
     }
     n
@@ -96,8 +97,8 @@ pub fn notify_acknowledged(
     requires { 4 * n + 8 ≤ length list.old }
     ensures { Listed (notices number complete raw) list.old n list.new result }
 {
-    let m = list_if(complete, list, n, 4, 0);
-    list_if(raw, list, m, 3, number)
+    let m = list_if(complete, list, n, EventCode::RejectionAcknowledged, 0);
+    list_if(raw, list, m, EventCode::Acknowledged, number)
 }
 
 // An ack in range.
@@ -126,7 +127,14 @@ fn out_of_range(s: SessionState, list: &mut [u64], queue: &mut [u8]) -> Returned
     ensures { OutOfRange s list.old queue.old result list.new queue.new }
 {
     let r = peer_session::broken(s, queue);
-    events::emit(list, 0, 7, 7, 0, 0);
+    events::emit(
+        list,
+        0,
+        EventCode::Failure,
+        Refusal::AckOutOfRange as u64,
+        0,
+        0,
+    );
     Returned {
         session: r,
         answer: Answer::Refused(Refusal::AckOutOfRange),
@@ -186,7 +194,7 @@ pub fn receive_keepalive(s: SessionState, list: &mut [u64]) -> Told
             events: 0,
         };
     }
-    events::emit(list, 0, 5, 0, 0, 0);
+    events::emit(list, 0, EventCode::Keepalive, 0, 0, 0);
     let v = s.retry;
     let n = numbers::list_all(v, list, 1);
     Told {
@@ -224,7 +232,7 @@ fn report_data(s: SessionState, list: &mut [u64], number: u64) -> Returned
         };
     }
     r.handoff.sent = true;
-    events::emit(list, 0, 1, 0, 0, 0);
+    events::emit(list, 0, EventCode::CommitRequested, 0, 0, 0);
     Returned {
         session: r,
         answer: Answer::Done,

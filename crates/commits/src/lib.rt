@@ -8,7 +8,7 @@ ghost use Rattle.session.specs.Promise.{Answered, CalledWithList};
 ghost use Rattle.commits.specs.Releases.{Persists, MayRelease, ReleasesBy, notices};
 
 use peer_session::SessionState;
-use rules::{Answer, Clock, PreparedCommit, Refusal};
+use rules::{Answer, Clock, EventCode, PreparedCommit, Refusal};
 use session::Returned;
 
 // What a commit is to capture: the generation, and the numbers given and delivered last.
@@ -87,7 +87,7 @@ pub fn notify_committed(persisted: bool, list: &mut [u64], n: usize) -> usize
     ensures { Listed (notices persisted) list.old n list.new result }
 {
     if persisted {
-        events::emit(list, n, 6, 0, 0, 0);
+        events::emit(list, n, EventCode::Committed, 0, 0, 0);
         return n + 1;
     }
     n

@@ -11,7 +11,7 @@ ghost use Rattle.delivery.specs.Acts.{HandedOver, Proposes, Rejects, Did, reject
 
 use numbers::Numbers;
 use queue::Queue;
-use rules::{Clock, HostStatus, ReceiveMode, Refusal};
+use rules::{BodyKind, Clock, Disposition, EventCode, HostStatus, ReceiveMode, Refusal};
 
 // What deliveries change, while a call is under way: numbers only, so that a drain moves no array. The outbox and the stores follow once, at the call's
 // end: the rejection was sent anew, or everything unacked dropped, or both in this order.
@@ -66,7 +66,14 @@ fn hand_over(s: Step, list: &mut [u64], delivery: &mut [u8], f: Frame) -> Step
 {
     let len = f.body.len();
     stores::copy_in(delivery, s.at, f.body);
-    events::emit(list, s.events, 2, f.number, s.at as u64, len as u64);
+    events::emit(
+        list,
+        s.events,
+        EventCode::Message,
+        f.number,
+        s.at as u64,
+        len as u64,
+    );
     Step {
         turn: s.turn,
         events: s.events + 1,
@@ -93,8 +100,8 @@ fn receive_proposal(t: Turn) -> Result<Turn, Refusal>
     ensures { Proposes t result }
 {
     let mut r = t;
-    if t.disposition != 4 {
-        r.disposition = 2;
+    if t.disposition != Disposition::OutboundReject as u8 {
+        r.disposition = Disposition::ProposalReceived as u8;
         return Ok(r);
     }
     if t.unacked {
@@ -115,7 +122,7 @@ fn reject_inbound(t: Turn) -> Turn
     ensures { Rejects t result }
 {
     let mut r = t;
-    r.disposition = 3;
+    r.disposition = Disposition::InboundReject as u8;
     if !t.unacked {
         return r;
     }
@@ -161,10 +168,10 @@ fn consume_proposal(
     requires { ReadyIn Proposal s.turn (length f.body.now) (length list.old) s.events (length delivery.old) s.at }
     ensures { Consumed (lent_frame f.entry) s.turn (books list.old s.events delivery.old s.at) result list.new delivery.new }
 {
-    if f.kind == 2 {
+    if f.kind == BodyKind::Reject as u8 {
         return Ok(take_reject(s, list));
     }
-    if f.number == 1 && f.kind == 1 {
+    if f.number == 1 && f.kind == BodyKind::Proposal as u8 {
         return take_proposal(s, list, delivery, f);
     }
     Err(Refusal::NotAProposal)
@@ -175,7 +182,7 @@ fn consume_rejection(s: Step, list: &mut [u64], f: Frame) -> Result<Step, Refusa
     requires { ReadyIn Rejection s.turn 0 (length list.old) s.events 0 0 }
     ensures { (d : Bytes) → Consumed (lent_frame f.entry) s.turn (books list.old s.events d s.at) result list.new d }
 {
-    if f.number == 1 && f.kind == 1 {
+    if f.number == 1 && f.kind == BodyKind::Proposal as u8 {
         return answer_proposal(s, list);
     }
     Ok(s)
@@ -215,7 +222,7 @@ pub fn available(t: Turn, status: HostStatus) -> bool
     }
     match t.mode {
         ReceiveMode::Raw | ReceiveMode::Rejection | ReceiveMode::Retiring => true,
-        ReceiveMode::Proposal => !(t.failed || t.disposition == 3),
+        ReceiveMode::Proposal => !(t.failed || t.disposition == Disposition::InboundReject as u8),
         ReceiveMode::Channel => false,
     }
 }
@@ -224,7 +231,7 @@ pub fn available(t: Turn, status: HostStatus) -> bool
 pub fn deliverable(t: Turn, number: u64, kind: u8) -> bool
     ensures { Deliverable number kind t result }
 {
-    !matches!(t.mode, ReceiveMode::Proposal) || number == 1 || kind == 2
+    t.mode != ReceiveMode::Proposal || number == 1 || kind == BodyKind::Reject as u8
 }
 
 // From frame `from` of the queue on, for as long as the host is available and the next message is there and deliverable. Its ack has the highest

@@ -12,7 +12,7 @@ use delivery::{Step, Turn};
 use numbers::Numbers;
 use outbox::Outbox;
 use peer_session::{RejectBody, SessionState};
-use rules::{HostStatus, Refusal};
+use rules::{EventCode, HostStatus, Refusal};
 
 // The session that a call ends with, the count of events, and the refusal that ended it.
 #[derive(Clone, Copy)]
@@ -108,7 +108,7 @@ pub fn fail(s: SessionState, list: &mut [u64], n: usize, queue: &mut [u8], x: Re
 {
     let emptied = peer_session::broken(s, queue);
     let number = answers::refusal_number(x);
-    events::emit(list, n, 7, number, 0, 0);
+    events::emit(list, n, EventCode::Failure, number, 0, 0);
     Ended {
         session: emptied,
         events: n + 1,

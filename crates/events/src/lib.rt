@@ -3,17 +3,18 @@
 
 ghost use Rattle.std.specs.Prelude.{◌≡◌, ◌∷◌, [], ◌+◌, ◌*◌, ◌≤◌, length};
 ghost use Rattle.stores.specs.Placed.{placed};
+ghost use Rattle.rules.specs.Codes.{event_number};
 ghost use Rattle.events.specs.Written.{asked, Listed};
 
-use rules::Clock;
+use rules::{Clock, EventCode};
 
 // Writes event number n.
-pub fn emit(list: &mut [u64], n: usize, code: u64, number: u64, start: u64, len: u64)
+pub fn emit(list: &mut [u64], n: usize, event: EventCode, number: u64, start: u64, len: u64)
     requires { 4 * n + 4 ≤ length list.old }
-    ensures { list.new ≡ placed list.old (4 * n) (code ∷ number ∷ start ∷ len ∷ []) }
+    ensures { list.new ≡ placed list.old (4 * n) (event_number event ∷ number ∷ start ∷ len ∷ []) }
 {
     let i = 4 * n;
-    list[i] = code;
+    list[i] = event as u64;
     list[i + 1] = number;
     list[i + 2] = start;
     list[i + 3] = len;
@@ -25,7 +26,7 @@ pub fn request(c: Clock, list: &mut [u64], n: usize) -> usize
     ensures { Listed (asked c) list.old n list.new result }
 {
     if c.persisted < c.generation {
-        emit(list, n, 1, 0, 0, 0);
+        emit(list, n, EventCode::CommitRequested, 0, 0, 0);
         return n + 1;
     }
     n

@@ -12,7 +12,7 @@ ghost use Rattle.link_arrivals.specs.Steps.{Receiving, Taking};
 use delivery::Turn;
 use link_draining::Ending;
 use parts::{Bytes, Halves, Words};
-use rules::{HostStatus, Refusal};
+use rules::{EventCode, HostStatus, Refusal};
 
 // A duplicate: its acknowledgement was lost, or waits for its commit.
 pub fn receive_again(
@@ -30,7 +30,7 @@ pub fn receive_again(
     parts::full_bytes(bytes);
     let c = link_codes::clock_in(halves, clock);
     if number <= words[parts::RELEASED] {
-        events::emit(list, 0, 10, number, 0, 0);
+        events::emit(list, 0, EventCode::AnswerAck, number, 0, 0);
         let n = events::request(c, list, 1);
         return Ending {
             events: n,

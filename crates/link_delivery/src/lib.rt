@@ -9,7 +9,7 @@ ghost use Rattle.link_delivery.specs.Drains.{DrainsIn, DrainingRaw, Left, Handed
 
 use delivery::{Step, Turn};
 use parts::{Bytes, Halves, Words};
-use rules::{HostStatus, ReceiveMode, Refusal};
+use rules::{EventCode, HostStatus, ReceiveMode, Refusal};
 
 // Where a drain ended: the turn, how many frames were taken from the front of the queue, the count of events, the first free byte of the delivery
 // buffer, and the refusal that ended it.
@@ -146,9 +146,9 @@ fn hand_over(
 {
     let body = stores::part(store, start, len);
     stores::copy_in(delivery, at, body);
-    events::emit(list, n, 2, number, at as u64, len as u64);
+    events::emit(list, n, EventCode::Message, number, at as u64, len as u64);
     if persisted < generation {
-        events::emit(list, n + 1, 1, 0, 0, 0);
+        events::emit(list, n + 1, EventCode::CommitRequested, 0, 0, 0);
         return n + 2;
     }
     n + 1

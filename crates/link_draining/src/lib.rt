@@ -16,7 +16,7 @@ ghost use Rattle.link_draining.specs.Endings.{ended_of};
 
 use delivery::Turn;
 use parts::{Bytes, Halves, Words, full_bytes, full_halves, full_words};
-use rules::{Clock, HostStatus, Refusal};
+use rules::{Clock, EventCode, HostStatus, Refusal};
 
 // The count of events at a call's end, and the refusal that ended it.
 #[derive(Clone, Copy)]
@@ -171,7 +171,7 @@ pub fn fail(
     link_queue::clear(words, halves, bytes, queue);
     mark_failed(bytes);
     let number = answers::refusal_number(x);
-    events::emit(list, n, 7, number, 0, 0);
+    events::emit(list, n, EventCode::Failure, number, 0, 0);
     Ending {
         events: n + 1,
         stop: Some(x),

@@ -13,6 +13,7 @@ ghost use Rattle.numbers.specs.Seats.{in_use, seat_of, step};
 ghost use Rattle.parts.specs.Parts.{section, numbers_in};
 ghost use Rattle.link_numbers.specs.Sets.{Set, Lies, firsts, Rising, Becomes, Releases};
 
+use rules::EventCode;
 use parts::Words;
 
 // ---- asked
@@ -130,7 +131,7 @@ fn list_one(upto: u64, x: u64, list: &mut [u64], n: usize) -> usize
     ensures { Listed (map send_ack (kept (releases_ack upto) (x ∷ []))) list.old n list.new result }
 {
     if x <= upto {
-        events::emit(list, n, 9, x, 0, 0);
+        events::emit(list, n, EventCode::SendAck, x, 0, 0);
         return n + 1;
     }
     n
@@ -170,7 +171,7 @@ pub fn list_all(words: &Words, from: usize, at: usize, list: &mut [u64], n: usiz
     let count = words[at] as usize;
     for i in 0..count {
         let x = words[from + i];
-        events::emit(list, n + i, 9, x, 0, 0);
+        events::emit(list, n + i, EventCode::SendAck, x, 0, 0);
     }
     n + count
 }

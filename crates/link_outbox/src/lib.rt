@@ -15,6 +15,7 @@ ghost use Rattle.outbox.specs.Steps.{Room, Replays};
 ghost use Rattle.link_outbox.specs.Steps.{Joins, Marks, Frees, Drops, Shifted, Front, freed, Sends};
 ghost use Rattle.link_outbox.specs.Tests.{fall, falls, Steps, low, stayer, Bounded, Sought};
 
+use rules::EventCode;
 use outbox::Place;
 use parts::{Bytes, Halves, Words, size, wide};
 
@@ -207,7 +208,7 @@ fn send_if(goes: bool, number: u32, len: u32, list: &mut [u64], n: usize, from: 
     ensures { Sends goes number len from list.old n list.new result }
 {
     if goes {
-        events::emit(list, n, 8, number as u64, from as u64, len as u64);
+        events::emit(list, n, EventCode::SendData, number as u64, from as u64, len as u64);
         return n + 1;
     }
     n

@@ -12,6 +12,8 @@ ghost use Rattle.rules.specs.Sound.{at_most, ascending};
 ghost use Rattle.events.specs.Written.{Listed};
 ghost use Rattle.numbers.specs.Seats.{in_use, seat_of, step, Holds, ReleasesAcks};
 
+use rules::EventCode;
+
 // Kept an array with a count: a session that was tampered with, even a count above 512, has to be a value of this type, to be refused by 3; and no heap.
 #[repr(C)]
 #[derive(Clone, Copy)]
@@ -131,7 +133,7 @@ fn list_one(upto: u64, x: u64, list: &mut [u64], n: usize) -> usize
     ensures { Listed (map send_ack (kept (releases_ack upto) (x ∷ []))) list.old n list.new result }
 {
     if x <= upto {
-        events::emit(list, n, 9, x, 0, 0);
+        events::emit(list, n, EventCode::SendAck, x, 0, 0);
         return n + 1;
     }
     n
@@ -162,7 +164,7 @@ pub fn list_all(v: Numbers, list: &mut [u64], n: usize) -> usize
     ensures count { result ≡ n + v.count }
 {
     for (i, &x) in v.values[..v.count].iter().enumerate() {
-        events::emit(list, n + i, 9, x, 0, 0);
+        events::emit(list, n + i, EventCode::SendAck, x, 0, 0);
     }
     n + v.count
 }

@@ -11,6 +11,8 @@ ghost use Rattle.outbox.specs.Records.{survives_u, releases_u, released_u, sent_
 ghost use Rattle.outbox.specs.Steps.{Room, Appended, Left, Flagged, SentIf, Releases, Replays};
 ghost use Rattle.outbox.specs.Sweeps.{Lowers};
 
+use rules::EventCode;
+
 #[repr(C)]
 #[derive(Clone, Copy)]
 pub struct Unacked {
@@ -204,7 +206,7 @@ fn send_if(goes: bool, u: Unacked, list: &mut [u64], n: usize, at: usize) -> usi
     ensures { SentIf goes u at list.old n list.new result }
 {
     if goes {
-        events::emit(list, n, 8, u.number as u64, at as u64, u.len as u64);
+        events::emit(list, n, EventCode::SendData, u.number as u64, at as u64, u.len as u64);
         return n + 1;
     }
     n

@@ -15,7 +15,7 @@ ghost use Rattle.peer_session.specs.New.{New, nothing, NoMessages, NoFrames, NoH
 use numbers::Numbers;
 use outbox::{Outbox, Unacked};
 use queue::{Queue, Queued};
-use rules::{Clock, Policy, ReceiveMode, Refusal, Setup};
+use rules::{Clock, Disposition, Policy, ReceiveMode, Refusal, Setup};
 
 // What coordination.rs decides by.
 #[derive(Clone, Copy)]
@@ -267,7 +267,7 @@ pub fn sound_acks(w: Numbers, r: Numbers, queued: usize, remote: u64) -> bool
 pub fn sound_sizes(disposition: u8, handoff: usize, reject: usize) -> bool
     ensures { result ≡ sound_sizes disposition handoff reject }
 {
-    if 4 < disposition {
+    if disposition > Disposition::OutboundReject as u8 {
         return false;
     }
     if 4096 < handoff {

@@ -9,7 +9,7 @@ ghost use Rattle.queue.specs.View.{len_q, used_q, end_q, frames_of, ExactQueue, 
 ghost use Rattle.queue.specs.Sound.{admits_queued, sound_queued, sound_queue};
 ghost use Rattle.queue.specs.Steps.{arrived, Leads, Room, Enters, with_at};
 
-use rules::Policy;
+use rules::{BodyKind, Policy};
 
 #[repr(C)]
 #[derive(Clone, Copy)]
@@ -39,7 +39,7 @@ fn admits_queued(u: Queued, last: u64, sum: usize, p: Policy) -> bool
     if rules::LAST_REMOTE < u.number {
         return false;
     }
-    if rules::KIND_REJECT < u.kind as u32 {
+    if u.kind > BodyKind::Reject as u8 {
         return false;
     }
     let n = u.len as usize;

@@ -13,7 +13,7 @@ ghost use Rattle.receiving.specs.Calls.{returned};
 use delivery::{Frame, Step, Turn};
 use draining::Ended;
 use peer_session::SessionState;
-use rules::{Answer, HostStatus, ReceiveMode, Refusal};
+use rules::{Answer, BodyKind, EventCode, HostStatus, ReceiveMode, Refusal};
 use session::Returned;
 
 // What becomes of data.
@@ -79,7 +79,7 @@ fn receive_again(s: SessionState, list: &mut [u64], number: u64) -> Ended
     ensures { Acknowledges number s list.old result list.new }
 {
     if number <= s.released {
-        events::emit(list, 0, 10, number, 0, 0);
+        events::emit(list, 0, EventCode::AnswerAck, number, 0, 0);
         return Ended {
             session: s,
             events: events::request(s.clock, list, 1),
@@ -99,7 +99,7 @@ fn receive_again(s: SessionState, list: &mut [u64], number: u64) -> Ended
 fn terminal(t: Turn, kind: u8) -> bool
     ensures { Terminal kind t result }
 {
-    matches!(t.mode, ReceiveMode::Proposal) && kind == 2
+    t.mode == ReceiveMode::Proposal && kind == BodyKind::Reject as u8
 }
 
 // Whether data is delivered now.

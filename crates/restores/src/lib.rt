@@ -9,7 +9,7 @@ ghost use Rattle.restores.specs.Restored.{given_in, handoff_given, Restored};
 ghost use Rattle.restores.specs.Steps.{held_in, Handed, Taking, Takes, Ends};
 
 use peer_session::{SessionState, TerminalHandoff};
-use rules::{Answer, Refusal};
+use rules::{Answer, Disposition, Refusal};
 use session::Returned;
 use starts::Reliable;
 
@@ -175,7 +175,7 @@ pub fn restore(
     if starts::short_record(numbers, lengths, bodies) {
         return session::refused(s, Refusal::ShortBuffer);
     }
-    if 4 < record.disposition {
+    if record.disposition > Disposition::OutboundReject as u64 {
         return session::refused(s, Refusal::UnknownCode);
     }
     if !peer_session::sound(s) {

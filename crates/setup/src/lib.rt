@@ -10,7 +10,7 @@ ghost use Rattle.session.specs.Promise.{CalledWithOutbound, CalledWithOutboundAl
 ghost use Rattle.setup.specs.Steps.{Ready, Joins, Asks, staged, waiting_in, Comes, proposing, rejecting, Retires, Forgets};
 
 use peer_session::SessionState;
-use rules::{Answer, Refusal, Setup, Terms};
+use rules::{Answer, Disposition, Refusal, Setup, Terms};
 use session::Returned;
 
 // ---- steps
@@ -69,7 +69,7 @@ fn accepted(s: SessionState, terms: Terms) -> Returned
     ensures { result ≡ waiting_in 1 terms s }
 {
     let setup = Setup::Waiting(terms);
-    let r = set_up(s, 1, setup);
+    let r = set_up(s, Disposition::Active as u8, setup);
     Returned {
         session: r,
         answer: Answer::Done,
@@ -82,7 +82,7 @@ fn propose(s: SessionState, outbound: &mut [u8], terms: Terms, body: &[u8]) -> R
     requires { Ready s (length outbound.old) }
     ensures { (l : List ℕ) → Comes (proposing terms body.now) s l outbound.old result l outbound.new }
 {
-    match join(s, outbound, 1, body) {
+    match join(s, outbound, Disposition::Active as u8, body) {
         Ok(r) => accepted(r, terms),
         Err(x) => session::refused(s, x),
     }
@@ -122,7 +122,7 @@ fn send_reject(s: SessionState, list: &mut [u64], outbound: &mut [u8]) -> Return
 {
     let bytes = s.reject.bytes;
     let len = s.reject.len;
-    match join(s, outbound, 4, &bytes[..len]) {
+    match join(s, outbound, Disposition::OutboundReject as u8, &bytes[..len]) {
         Ok(r) => done(r, list),
         Err(x) => session::refused(s, x),
     }
@@ -209,7 +209,7 @@ fn forget(s: SessionState, outbound: &mut [u8]) -> SessionState
 fn retains(retain: bool, disposition: u8) -> bool
     ensures { result ≡ (retain && eqb disposition 4) }
 {
-    retain && disposition == 4
+    retain && disposition == Disposition::OutboundReject as u8
 }
 
 // The session ends. The answer is whether its rejection is retained.

@@ -12,7 +12,7 @@ ghost use Rattle.starts.specs.Records.{reliable_of, under, GoodMessages, GoodRec
 
 use outbox::{Outbox, Unacked};
 use peer_session::{RejectBody, SessionState};
-use rules::{Answer, Policy, Refusal};
+use rules::{Answer, Disposition, Policy, Refusal};
 use session::Returned;
 
 // The Rust's `ReliableState` but for its messages, which come as lent slices.
@@ -202,7 +202,7 @@ pub fn judge(
     if short_record(numbers, lengths, bodies) {
         return Verdict::Refused(Refusal::ShortBuffer);
     }
-    if 4 < record.disposition {
+    if record.disposition > Disposition::OutboundReject as u64 {
         return Verdict::Refused(Refusal::UnknownCode);
     }
     if !good_record(record, numbers, lengths) {
