@@ -11,7 +11,7 @@ ghost use Rattle.link_draining.specs.Steps.{Failing};
 ghost use Rattle.link_acks.specs.Acks.{AckReady, AckEnters, outside, BeyondIn, raised_if};
 
 use events::Stop;
-use parts::{Bytes, Halves, LinkAnswer, Words, full_halves};
+use parts::{Bytes, Halves, LinkAnswer, Words};
 use peer_session::SessionState;
 use rules::{Answer, Refusal};
 
@@ -41,7 +41,6 @@ fn ack_enters(
     if SessionState::GENERATION_LIMIT <= halves[parts::GENERATION] {
         return Stop::By(Refusal::GenerationsExhausted);
     }
-    full_halves(halves);
     Stop::No
 }
 

@@ -40,7 +40,6 @@ fn enters(
 ) -> Stop
     ensures { Enters words.now halves.now bytes.now list commit result }
 {
-    parts::full_halves(halves);
     if list < SessionState::EVENT_WORDS {
         return Stop::By(Refusal::ShortBuffer);
     }

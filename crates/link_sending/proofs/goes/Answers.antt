@@ -15,4 +15,4 @@ pub returns-in-By : goal.returns-in-By
 returns-in-By c = stopped c.args.words.now c.args.halves.now c.args.bytes.now c.args.clock.now c.args.list.now c.args.outbound.now c.args.body.now c.requires _ c.allocate-stop.ensures c.in-By.is c.refusal.ensures
 
 pub returns-in-No : goal.returns-in-No
-returns-in-No c = went c.args.words.now c.args.halves.now c.args.bytes.now c.args.clock.now c.args.list.now c.args.outbound.now c.args.body.now c.requires c.full_halves.ensures c.allocate-stop.ensures c.in-No.is c.clock_in-k.result c.clock_in-k.ensures c.request-n.new.list c.request-n.result c.request-n.ensures c.plain.ensures
+returns-in-No c = went c.args.words.now c.args.halves.now c.args.bytes.now c.args.clock.now c.args.list.now c.args.outbound.now c.args.body.now c.requires (omega arith) c.allocate-stop.ensures c.in-No.is c.clock_in-k.result c.clock_in-k.ensures c.request-n.new.list c.request-n.result c.request-n.ensures c.plain.ensures

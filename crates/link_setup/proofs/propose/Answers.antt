@@ -14,4 +14,4 @@ pub returns-in-By : goal.returns-in-By
 returns-in-By c = stopped c.args.words.now c.args.halves.now c.args.bytes.now c.args.clock.now c.args.terms c.args.outbound.now c.args.body.now c.requires.0 c.requires.1 _ c.allocate-stop.ensures c.in-By.is c.refusal.ensures
 
 pub returns-in-No : goal.returns-in-No
-returns-in-No c = went c.args.words.now c.args.halves.now c.args.bytes.now c.args.clock.now c.args.terms c.args.outbound.now c.args.body.now c.requires.0 c.requires.1 c.full_halves.ensures c.allocate-stop.ensures c.in-No.is c.stage.ensures c.plain.ensures
+returns-in-No c = went c.args.words.now c.args.halves.now c.args.bytes.now c.args.clock.now c.args.terms c.args.outbound.now c.args.body.now c.requires.0 c.requires.1 (omega arith) c.allocate-stop.ensures c.in-No.is c.stage.ensures c.plain.ensures
