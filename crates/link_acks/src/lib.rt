@@ -10,7 +10,7 @@ ghost use Rattle.parts.specs.Driven.{Driven};
 ghost use Rattle.link_draining.specs.Steps.{Failing};
 ghost use Rattle.link_acks.specs.Acks.{AckReady, AckEnters, outside, BeyondIn, raised_if};
 
-use parts::{Bytes, Halves, LinkAnswer, Words, full_halves};
+use parts::{Bytes, Halves, LinkAnswer, Words};
 use peer_session::SessionState;
 use rules::{Answer, Refusal};
 
@@ -40,7 +40,6 @@ fn ack_enters(
     if SessionState::GENERATION_LIMIT <= halves[parts::GENERATION] {
         return Err(Refusal::GenerationsExhausted);
     }
-    full_halves(halves);
     Ok(())
 }
 

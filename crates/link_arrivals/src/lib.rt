@@ -26,8 +26,6 @@ pub fn receive_again(
     requires { Acknowledging number (opened_of (parts words.old halves.now bytes.now clock.now)) (length list.old) × Rising 272 5 words.old }
     ensures { Acknowledges number (opened_of (parts words.old halves.now bytes.now clock.now)) list.old (ended_of (opened_of (parts words.new halves.now bytes.now clock.now)) result) list.new }
 {
-    parts::full_words(words);
-    parts::full_bytes(bytes);
     let c = link_codes::clock_in(halves, clock);
     if number <= words[parts::RELEASED] {
         events::emit(list, 0, EventCode::AnswerAck, number, 0, 0);
@@ -64,8 +62,6 @@ fn take_now(
     requires { Taking true status t (frame_of number kind body.now) words.old halves.old bytes.old clock.old list.old delivery.old outbound.old queue.old }
     ensures { Anew status (frame_of number kind body.now) (opened_of (parts words.old halves.old bytes.old clock.old)) list.old delivery.old outbound.old queue.old (ended_of (opened_of (parts words.new halves.new bytes.new clock.new)) result) list.new delivery.new outbound.new queue.new }
 {
-    parts::full_words(words);
-    parts::full_bytes(bytes);
     let a = delivery::deliver(t, list, 0, delivery, 0, number, kind, body);
     let turn = a.turn;
     let stop = a.stop;
@@ -105,8 +101,6 @@ fn enqueue(
     requires { Taking false status t (frame_of number kind body.now) words.old halves.old bytes.old clock.old list.old delivery.old outbound.old queue.old }
     ensures { Anew status (frame_of number kind body.now) (opened_of (parts words.old halves.old bytes.old clock.old)) list.old delivery.old outbound.old queue.old (ended_of (opened_of (parts words.new halves.new bytes.new clock.new)) result) list.new delivery.new outbound.new queue.new }
 {
-    parts::full_words(words);
-    parts::full_bytes(bytes);
     let c = link_codes::clock_in(halves, clock);
     if link_queue::holds(words, number) {
         let n = events::request(c, list, 0);

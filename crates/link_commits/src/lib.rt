@@ -39,7 +39,6 @@ fn enters(
 ) -> Result<(), Refusal>
     ensures { Enters words.now halves.now bytes.now list commit result }
 {
-    parts::full_halves(halves);
     if list < SessionState::EVENT_WORDS {
         return Err(Refusal::ShortBuffer);
     }

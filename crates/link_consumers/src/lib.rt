@@ -26,7 +26,6 @@ fn ready(
     requires { Readying mode words.old halves.old bytes.old clock.old list.old delivery.old outbound.old queue.old }
     ensures { Driven (parts words.old halves.old bytes.old clock.old) (parts words.new halves.new bytes.new clock.new) result (λ s y. Called (is_ready status mode) s (lent list.old delivery.old outbound.old queue.old) y (lent list.new delivery.new outbound.new queue.new)) }
 {
-    parts::full_bytes(bytes);
     bytes[parts::MODE] = mode;
     let t = link_draining::turn_of(words, halves, bytes, clock);
     let e = link_draining::carry(

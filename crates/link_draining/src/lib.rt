@@ -15,7 +15,7 @@ ghost use Rattle.link_draining.specs.Steps.{Discards, SettlesIn, Timed, Advances
 ghost use Rattle.link_draining.specs.Endings.{ended_of};
 
 use delivery::Turn;
-use parts::{Bytes, Halves, Words, full_bytes, full_halves, full_words};
+use parts::{Bytes, Halves, Words};
 use rules::{Clock, EventCode, HostStatus, Refusal};
 
 // The count of events at a call's end, and the refusal that ended it.
@@ -62,7 +62,6 @@ fn discard(words: &mut Words, halves: &Halves, bytes: &Bytes, outbound: &mut [u8
     requires { ExactOutbox (outbox_in words.old halves.now bytes.now) (length outbound.old) }
     ensures { Discards words.old halves.now bytes.now outbound.old words.new outbound.new }
 {
-    full_words(words);
     let end = link_outbox::used(halves, words[parts::UNACKED] as usize);
     stores::clear(outbound, 0, end);
     words[parts::UNACKED] = 0;
@@ -73,7 +72,6 @@ fn settle(words: &mut Words, halves: &mut Halves, bytes: &mut Bytes, outbound: &
     requires { Settling t (reject_in words.old bytes.old) (outbox_in words.old halves.old bytes.old) (length outbound.old) }
     ensures { SettlesIn t words.old halves.old bytes.old outbound.old words.new halves.new bytes.new outbound.new }
 {
-    full_words(words);
     if t.sent {
         if t.dropped {
             let next = words[parts::NEXT];
@@ -110,9 +108,6 @@ fn advance(
     requires { (Settling t (opened_of (parts words.old halves.old bytes.old clock.old)).reject (opened_of (parts words.old halves.old bytes.old clock.old)).outbox (length outbound.old)) × (good_codes (codes_in halves.old bytes.old) ≡ true) }
     ensures { AdvancesIn t (parts words.old halves.old bytes.old clock.old) outbound.old (parts words.new halves.new bytes.new clock.new) outbound.new }
 {
-    full_words(words);
-    full_halves(halves);
-    full_bytes(bytes);
     settle(words, halves, bytes, outbound, t);
     words[parts::REMOTE] = t.remote;
     bytes[parts::DISPOSITION] = t.disposition;
@@ -135,8 +130,6 @@ fn finish(
     ensures { Finishes t (waiting_in words.old) taken (opened_of (parts words.old halves.old bytes.old clock.old)) outbound.old queue.old (opened_of (parts words.new halves.new bytes.new clock.new)) outbound.new queue.new }
 {
     advance(words, halves, bytes, clock, outbound, t);
-    full_words(words);
-    full_bytes(bytes);
     link_queue::drop_front(words, halves, bytes, queue, taken);
 }
 
@@ -166,8 +159,6 @@ pub fn fail(
     requires { Failing words.old halves.now bytes.old n (length list.old) (length queue.old) }
     ensures { Fails x (opened_of (parts words.old halves.now bytes.old clock.now)) list.old n queue.old (ended_of (opened_of (parts words.new halves.now bytes.new clock.now)) result) list.new queue.new }
 {
-    full_words(words);
-    full_bytes(bytes);
     link_queue::clear(words, halves, bytes, queue);
     mark_failed(bytes);
     let number = answers::refusal_number(x);
@@ -219,8 +210,6 @@ pub fn carry(
     requires { (Carrying t (waiting_in words.old) from (opened_of (parts words.old halves.old bytes.old clock.old)) list.old n delivery.old at outbound.old queue.old) × (good_codes (codes_in halves.old bytes.old) ≡ true) }
     ensures { Carries status t (waiting_in words.old) from (opened_of (parts words.old halves.old bytes.old clock.old)) list.old n delivery.old at outbound.old queue.old (ended_of (opened_of (parts words.new halves.new bytes.new clock.new)) result) list.new delivery.new outbound.new queue.new }
 {
-    full_words(words);
-    full_bytes(bytes);
     let d = link_delivery::drain(
         t, words, halves, bytes, from, queue, status, list, n, delivery, at,
     );

@@ -80,7 +80,6 @@ fn same_body(words: &Words, bytes: &Bytes, body: &[u8]) -> bool
     requires { at words.now 7 ≤ 4096 }
     ensures { result ≡ same (take (at words.now 7) (section 776 4096 bytes.now)) body.now }
 {
-    parts::full_bytes(bytes);
     let held = stores::part(
         bytes,
         parts::HANDOFF_BODY,
@@ -96,7 +95,7 @@ fn unacked_to(words: &Words, halves: &Halves, number: u64) -> bool
     if words[parts::UNACKED] == 0 {
         return false;
     }
-    parts::wide(halves[0]) <= number
+    u64::from(halves[0]) <= number
 }
 
 // Whether an unacked message has its number and its body.
@@ -104,7 +103,6 @@ fn carried(words: &Words, halves: &Halves, bytes: &Bytes, outbound: &[u8]) -> bo
     requires { HoldingIn words.now halves.now bytes.now (length outbound.now) }
     ensures { result ≡ any (carries_body (at words.now 9) (take (at words.now 7) (section 776 4096 bytes.now))) (unacked_of (outbox_in words.now halves.now bytes.now) outbound.now) }
 {
-    parts::full_bytes(bytes);
     let held = stores::part(
         bytes,
         parts::HANDOFF_BODY,
@@ -179,7 +177,6 @@ fn hand_off(
     requires { Commanding (parts words.old halves.old bytes.old clock.now) (length list.old) (length outbound.old) × (flag (at bytes.old 775) ≡ false) × (length body.now ≤ 4096) }
     ensures { (restoring : Bool) → ComesIn (commanding restoring (some (record { id = id; body = body.now }))) (parts words.old halves.old bytes.old clock.now) (parts words.new halves.new bytes.new clock.now) list.old outbound.old result list.new outbound.new }
 {
-    parts::full_halves(halves);
     let number = words[parts::NEXT];
     let generation = halves[parts::GENERATION];
     match link_sending::allocate(words, halves, bytes, outbound, body) {
@@ -271,7 +268,6 @@ pub fn command(
     let size = peer_session::handoff_length(present, body.len());
     match enters(words, halves, bytes, list.len(), outbound.len(), size) {
         Ok(()) => {
-            parts::full_halves(halves);
             starting(halves, bytes, restoring);
             goes(
                 words, halves, bytes, clock, list, outbound, restoring, present, id, body,

@@ -26,7 +26,6 @@ fn same_handoff(words: &Words, bytes: &Bytes, given: Handoff, body: &[u8]) -> bo
     requires { at words.now 7 ≤ 4096 }
     ensures { result ≡ same_handoff (held_in (handoff_in words.now bytes.now)) (given_in given body.now) }
 {
-    link_sound::sized(words, bytes);
     if words[parts::HANDOFF_ID] != given.id {
         return false;
     }
@@ -66,7 +65,6 @@ pub fn hand(words: &mut Words, bytes: &mut Bytes, given: Handoff, body: &[u8])
     requires { handoff_size (handoff_given given body.now) ≤ 4096 }
     ensures { HandedIn given body.now words.old bytes.old words.new bytes.new }
 {
-    link_sound::sized(words, bytes);
     if !given.present {
         bytes[parts::HANDOFF_PRESENT] = 0;
         return;

@@ -18,7 +18,6 @@ fn retired(words: &mut Words, halves: &mut Halves, bytes: &mut Bytes, queue: &mu
     requires { Retiring words.old halves.old bytes.old (length queue.old) }
     ensures { RetiresIn words.old halves.old bytes.old queue.old words.new halves.new bytes.new queue.new }
 {
-    parts::full_halves(halves);
     let end = link_queue::start(halves, words[parts::QUEUED] as usize);
     stores::clear(queue, 0, end);
     words[parts::QUEUED] = 0;
@@ -36,8 +35,6 @@ fn forget(words: &mut Words, halves: &mut Halves, bytes: &Bytes, outbound: &mut 
     requires { ExactOutbox (outbox_in words.old halves.old bytes.now) (length outbound.old) }
     ensures { ForgetsIn words.old halves.old bytes.now outbound.old words.new halves.new outbound.new }
 {
-    parts::full_halves(halves);
-    link_sound::sized(words, bytes);
     let end = link_outbox::used(halves, words[parts::UNACKED] as usize);
     stores::clear(outbound, 0, end);
     words[parts::UNACKED] = 0;

@@ -9,7 +9,7 @@ ghost use Rattle.parts.specs.Parts.{parts, outbox_in};
 ghost use Rattle.parts.specs.Driven.{Driven};
 ghost use Rattle.link_sending.specs.Sends.{Ready, Enters, AllocatesIn};
 
-use parts::{Bytes, Halves, LinkAnswer, Words, full_halves};
+use parts::{Bytes, Halves, LinkAnswer, Words};
 use peer_session::SessionState;
 use rules::Refusal;
 
@@ -77,7 +77,6 @@ fn goes(
     requires { Ready (parts words.old halves.old bytes.old clock.now) (length list.old) (length outbound.old) }
     ensures { Driven (parts words.old halves.old bytes.old clock.now) (parts words.new halves.new bytes.new clock.now) result (λ s y. CalledWithOutbound (sends body.now) s list.old outbound.old y list.new outbound.new) }
 {
-    full_halves(halves);
     let number = words[parts::NEXT];
     let generation = halves[parts::GENERATION];
     match allocate(words, halves, bytes, outbound, body) {

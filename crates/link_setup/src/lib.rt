@@ -36,7 +36,6 @@ pub fn prepare_channel(
 ) -> LinkAnswer
     ensures { Driven (parts words.now halves.old bytes.old clock.now) (parts words.now halves.new bytes.new clock.now) result (λ s y. CalledAlone (prepares_channel terms) s y) }
 {
-    parts::full_halves(halves);
     if !link_sound::sound(words, halves, bytes) {
         return link_codes::refusal(Refusal::BadRecord);
     }
@@ -101,7 +100,6 @@ fn propose(
     requires { (Accepting (parts words.old halves.old bytes.old clock.now) terms (length outbound.old)) × (terms.initiator ≡ true) }
     ensures { Driven (parts words.old halves.old bytes.old clock.now) (parts words.new halves.new bytes.new clock.now) result (λ s y. CalledWithOutboundAlone (accepts terms body.now) s outbound.old y outbound.new) }
 {
-    parts::full_halves(halves);
     let generation = halves[parts::GENERATION];
     match link_sending::allocate(words, halves, bytes, outbound, body) {
         Ok(()) => {
@@ -129,7 +127,6 @@ fn accepted(
     if terms.initiator {
         return propose(words, halves, bytes, clock, outbound, terms, body);
     }
-    parts::full_halves(halves);
     stage(halves, bytes, 1, 1, terms);
     link_codes::plain(0, 0, 0)
 }
@@ -191,7 +188,6 @@ fn send_reject(
     requires { Rejecting (parts words.old halves.old bytes.old clock.now) (length list.old) (length outbound.old) }
     ensures { Driven (parts words.old halves.old bytes.old clock.now) (parts words.new halves.new bytes.new clock.now) result (λ s y. CalledWithOutbound rejects s list.old outbound.old y list.new outbound.new) }
 {
-    parts::full_halves(halves);
     let generation = halves[parts::GENERATION];
     let j = link_codes::reject_in(words, bytes);
     let body = j.bytes;

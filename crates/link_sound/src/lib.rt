@@ -10,16 +10,7 @@ ghost use Rattle.parts.specs.Seats.{seats};
 ghost use Rattle.parts.specs.Parts.{at, queued_at, queue_in, policy_in, waiting_in, retry_in, parts, opened_of};
 ghost use Rattle.link_sound.specs.Sizes.{Sized, admits};
 
-use parts::{Bytes, Halves, Words, full_bytes, full_words, wide};
-
-// ---- how long the arrays are: for the proofs
-
-pub fn sized(words: &Words, bytes: &Bytes)
-    ensures { Sized words.now bytes.now }
-{
-    full_words(words);
-    full_bytes(bytes);
-}
+use parts::{Bytes, Halves, Words};
 
 // ---- the queue
 
@@ -27,19 +18,7 @@ fn admits(body: u64, bytes: u64, last: u64, sum: u64, number: u64, len: u64, kin
     requires { sum ≤ bytes }
     ensures { result ≡ admits body bytes last sum number len kind }
 {
-    if number <= last {
-        return false;
-    }
-    if rules::LAST_REMOTE < number {
-        return false;
-    }
-    if 2 < kind {
-        return false;
-    }
-    if body < len {
-        return false;
-    }
-    len <= bytes - sum
+    last < number && number <= rules::LAST_REMOTE && kind <= 2 && len <= body && len <= bytes - sum
 }
 
 // Whether the numbers rise from remote on, and each body and all of them are within the policy.
@@ -51,10 +30,9 @@ fn sound_queued(words: &Words, halves: &Halves, bytes: &Bytes, count: usize) -> 
     let body = words[parts::POLICY_BODY];
     let mut last = words[parts::REMOTE];
     let mut sum: u64 = 0;
-    let mut i = 0;
-    while i < count {
+    for i in 0..count {
         let number = words[parts::QUEUED_NUMBERS + i];
-        let len = wide(halves[parts::QUEUED_LENS + i]);
+        let len = u64::from(halves[parts::QUEUED_LENS + i]);
         if !admits(
             body,
             size,
@@ -68,59 +46,39 @@ fn sound_queued(words: &Words, halves: &Halves, bytes: &Bytes, count: usize) -> 
         }
         last = number;
         sum += len;
-        i += 1;
     }
     true
 }
 
 // Whether the policy is within its limits and the queue within the policy.
+#[tactic(auto, unfolding(queue::specs::Sound::sound_queue, queue::specs::Sound::sound_queued))]
 pub fn sound_queue(words: &Words, halves: &Halves, bytes: &Bytes) -> bool
     ensures { result ≡ sound_queue (policy_in words.now) (at words.now 2) (queue_in words.now halves.now bytes.now) }
 {
     let messages = words[parts::POLICY_MESSAGES];
     let count = words[parts::QUEUED];
-    if 256 < messages {
-        return false;
-    }
-    if 32768 < words[parts::POLICY_BYTES] {
-        return false;
-    }
-    if 16384 < words[parts::POLICY_BODY] {
-        return false;
-    }
-    if messages < count {
-        return false;
-    }
-    if rules::LAST_REMOTE < words[parts::REMOTE] {
-        return false;
-    }
-    sound_queued(words, halves, bytes, count as usize)
+    messages <= 256
+        && words[parts::POLICY_BYTES] <= 32768
+        && words[parts::POLICY_BODY] <= 16384
+        && count <= messages
+        && words[parts::REMOTE] <= rules::LAST_REMOTE
+        && sound_queued(words, halves, bytes, count as usize)
 }
 
 // ---- the acks
 
+#[tactic(auto, using(link_numbers::proofs::Asked::tail_ascends), unfolding(peer_session::specs::Sound::sound_acks))]
 pub fn sound_acks(words: &Words) -> bool
-    requires { 1296 ≤ length words.now }
     ensures { result ≡ sound_acks (waiting_in words.now) (retry_in words.now) (at words.now 4) (at words.now 2) }
 {
     let waiting = words[parts::WAITING] as usize;
     let retries = words[parts::RETRIES] as usize;
-    if 512 < waiting {
-        return false;
-    }
-    if 512 - waiting < words[parts::QUEUED] as usize {
-        return false;
-    }
-    if 512 < retries {
-        return false;
-    }
-    if !link_numbers::rises(words, parts::WAITING_NUMBERS, waiting, 0, 0) {
-        return false;
-    }
-    if !link_numbers::at_most(words, parts::WAITING_NUMBERS, waiting, words[parts::REMOTE]) {
-        return false;
-    }
-    link_numbers::ascends(words, parts::RETRY_NUMBERS, retries)
+    waiting <= 512
+        && words[parts::QUEUED] as usize <= 512 - waiting
+        && retries <= 512
+        && link_numbers::rises(words, parts::WAITING_NUMBERS, waiting, 0, 0)
+        && link_numbers::at_most(words, parts::WAITING_NUMBERS, waiting, words[parts::REMOTE])
+        && link_numbers::ascends(words, parts::RETRY_NUMBERS, retries)
 }
 
 // ---- all of it
@@ -128,7 +86,6 @@ pub fn sound_acks(words: &Words) -> bool
 pub fn sound(words: &Words, halves: &Halves, bytes: &Bytes) -> bool
     ensures { (t : Float) → Checked (opened_of (parts words.now halves.now bytes.now t)) result }
 {
-    sized(words, bytes);
     if !link_outbox::sound(words, halves) {
         return false;
     }

@@ -19,18 +19,14 @@ use starts::{Reliable, Verdict};
 
 // They are neither pending nor unsent.
 fn records(halves: &mut Halves, bytes: &mut Bytes, numbers: &[u64], lengths: &[u64])
-    requires { Fitting numbers.now lengths.now × (length halves.old ≡ 772) × (length bytes.old ≡ 4936) }
+    requires { Fitting numbers.now lengths.now }
     ensures { Written numbers.now lengths.now halves.old bytes.old halves.new bytes.new }
 {
-    let mut i = 0;
-    while i < numbers.len() {
-        let n = numbers[i];
-        let k = lengths[i];
-        halves[i] = n as u32;
-        halves[parts::UNACKED_LENS + i] = k as u32;
+    for i in 0..numbers.len() {
+        halves[i] = numbers[i] as u32;
+        halves[parts::UNACKED_LENS + i] = lengths[i] as u32;
         bytes[i] = 0;
         bytes[parts::UNSENT + i] = 0;
-        i += 1;
     }
 }
 
@@ -48,8 +44,6 @@ pub fn take(
     requires { TakingIn «record» numbers.now lengths.now bodies.now words.old halves.old bytes.old (length outbound.old) }
     ensures { TakenIn «record» numbers.now lengths.now bodies.now words.old halves.old bytes.old outbound.old words.new halves.new bytes.new outbound.new }
 {
-    link_sound::sized(words, bytes);
-    parts::full_halves(halves);
     let end = link_outbox::used(halves, words[parts::UNACKED] as usize);
     let n = starts::body_bytes(lengths, numbers.len());
     restores::repack(outbound, bodies, n, end);
@@ -90,7 +84,6 @@ fn judge(
 
 // The numbers of a new session before its arrays: nothing is queued, no ack waits and there is no handoff.
 fn put_head(words: &mut Words, record: Reliable, count: usize, policy: Policy, reject: usize)
-    requires { length words.old ≡ 1296 }
     ensures { Filled 0 15 (at (head «record» count policy reject)) words.old words.new }
 {
     words[parts::NEXT] = record.message_number;
@@ -114,7 +107,6 @@ fn put_head(words: &mut Words, record: Reliable, count: usize, policy: Policy, r
 fn put_tail(halves: &mut Halves)
     ensures { Filled 768 4 (at (0 ∷ 0 ∷ 0 ∷ 0 ∷ [])) halves.old halves.new }
 {
-    parts::full_halves(halves);
     halves[parts::GENERATION] = 0;
     halves[parts::RELEASED_GENERATION] = 0;
     halves[parts::PERSISTED_GENERATION] = 0;
@@ -123,7 +115,7 @@ fn put_tail(halves: &mut Halves)
 
 // The codes of the stage, the flags of the handoff, and the reject body.
 fn put_middle(bytes: &mut Bytes, disposition: u8, reject: &[u8])
-    requires { (length bytes.old ≡ 4936) × (length reject.now ≤ 64) }
+    requires { length reject.now ≤ 64 }
     ensures { BodyIn disposition reject.now bytes.old bytes.new }
 {
     stores::copy_in(bytes, parts::REJECT_BODY, reject);
@@ -152,8 +144,6 @@ fn begin(
     requires { Beginning «record» numbers.now lengths.now reject.now }
     ensures { Begun «record» numbers.now lengths.now policy reject.now (opened_of (parts words.new halves.new bytes.new clock.new)) }
 {
-    link_sound::sized(words, bytes);
-    parts::full_halves(halves);
     records(halves, bytes, numbers, lengths);
     put_head(words, record, numbers.len(), policy, reject.len());
     put_tail(halves);

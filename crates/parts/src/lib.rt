@@ -2,7 +2,7 @@
 // that is named here; include/link.h and specs/Parts.antt repeat the indices.
 #![tactic(auto)]
 
-ghost use Rattle.std.specs.Prelude.{◌≡◌, length};
+ghost use Rattle.std.specs.Prelude.{◌≡◌};
 
 // ---- words
 
@@ -119,26 +119,6 @@ pub struct LinkAnswer {
     pub second: u64,
     pub third: u64,
     pub events: usize,
-}
-
-// ---- an array that is lent has its length, as a slice of it tells a proof
-
-pub fn full_words(words: &Words)
-    ensures { length words.now ≡ 1296 }
-{
-    let s: &[u64] = words;
-}
-
-pub fn full_halves(halves: &Halves)
-    ensures { length halves.now ≡ 772 }
-{
-    let s: &[u32] = halves;
-}
-
-pub fn full_bytes(bytes: &Bytes)
-    ensures { length bytes.now ≡ 4936 }
-{
-    let s: &[u8] = bytes;
 }
 
 // ---- a half as a word, and as a size: a cast of an element asks nothing where a function makes it

@@ -1,3 +1,4 @@
+use native.Mathlib.Omega.{arith}
 use mathlib.Core.Path.{sym, ◌∙◌}
 use Rattle.link_acks.proofs.Acks.{short-list, short-outbound, short-queue, unsound, spent, spent_in}
 use Rattle.link_acks.proofs.ack_enters.Goals as goal
@@ -24,7 +25,7 @@ returns c = λ t. (
   record {
     sound = sym (c.sound.ensures t).is ∙ c.if-not-sound.false;
     full = (c.sound.ensures t).full;
-    halves = c.full_halves.ensures;
+    halves = omega arith;
     list = c.if-list-lt-EVENT_WORDS.false;
     outbound = c.if-outbound-lt-OUTBOUND_BYTES.false;
     low = c.if-halves-ge-GENERATION_LIMIT.false;

@@ -56,8 +56,8 @@ request-n-requires-2 c =
 
 pub carry-requires-2 : goal.carry-requires-2
 carry-requires-2 c =
-    carrying_joined c.args.words.now c.args.halves.now c.args.bytes.now c.args.clock.now c.requires c.holds.ensures c.if-holds.false c.if-words-count.false c.start-end.ensures c.if-words-end.false (omega (arith, c.full_words.ensures)) (omega (arith, c.full_bytes.ensures)) c.insert.ensures c.clock_in-c.ensures c.request-n-2.ensures c.request-n-2.auto.list
+    carrying_joined c.args.words.now c.args.halves.now c.args.bytes.now c.args.clock.now c.requires c.holds.ensures c.if-holds.false c.if-words-count.false c.start-end.ensures c.if-words-end.false (omega arith) (omega arith) c.insert.ensures c.clock_in-c.ensures c.request-n-2.ensures c.request-n-2.auto.list
 
 pub returns : goal.returns
 returns c =
-    joined c.args.words.now c.args.halves.now c.args.bytes.now c.args.clock.now c.requires c.holds.ensures c.if-holds.false c.if-words-count.false c.start-end.ensures c.if-words-end.false (omega (arith, c.full_words.ensures)) (omega (arith, c.full_bytes.ensures)) c.insert.ensures c.clock_in-c.ensures c.request-n-2.ensures c.carry-2.ensures
+    joined c.args.words.now c.args.halves.now c.args.bytes.now c.args.clock.now c.requires c.holds.ensures c.if-holds.false c.if-words-count.false c.start-end.ensures c.if-words-end.false (omega arith) (omega arith) c.insert.ensures c.clock_in-c.ensures c.request-n-2.ensures c.carry-2.ensures

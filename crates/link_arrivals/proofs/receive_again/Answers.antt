@@ -21,4 +21,4 @@ request-n-requires-2 c = omega (arith, c.requires.0.list)
 
 pub returns : goal.returns
 returns c =
-    waits c.args.number c.args.words.now c.args.halves.now c.args.bytes.now c.args.clock.now c.args.list.now (omega (arith, c.full_words.ensures)) (omega (arith, c.full_bytes.ensures)) c.put.ensures c.clock_in-c.ensures c.if-number-words.false c.request-n-2.ensures
+    waits c.args.number c.args.words.now c.args.halves.now c.args.bytes.now c.args.clock.now c.args.list.now (omega arith) (omega arith) c.put.ensures c.clock_in-c.ensures c.if-number-words.false c.request-n-2.ensures

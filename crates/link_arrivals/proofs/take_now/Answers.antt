@@ -25,7 +25,7 @@ request-n-requires c =
 
 pub carry-requires : goal.carry-requires
 carry-requires c =
-    carrying c.args.words.now c.args.halves.now c.args.bytes.now c.args.clock.now c.requires c.deliver-a.ensures c.in-None.is (omega (arith, c.full_words.ensures)) (omega (arith, c.full_bytes.ensures)) c.put.ensures c.up_to-from.ensures c.request-n.ensures (c.request-n.auto.list ∙ c.deliver-a.auto.list) c.deliver-a.auto.delivery
+    carrying c.args.words.now c.args.halves.now c.args.bytes.now c.args.clock.now c.requires c.deliver-a.ensures c.in-None.is (omega arith) (omega arith) c.put.ensures c.up_to-from.ensures c.request-n.ensures (c.request-n.auto.list ∙ c.deliver-a.auto.list) c.deliver-a.auto.delivery
 
 pub returns-in-Some : goal.returns-in-Some
 returns-in-Some c =
@@ -39,4 +39,4 @@ shape_of-delivery-in-None c = c.carry.auto.delivery ∙ c.deliver-a.auto.deliver
 
 pub returns-in-None : goal.returns-in-None
 returns-in-None c =
-    taken c.args.words.now c.args.halves.now c.args.bytes.now c.args.clock.now c.requires c.deliver-a.ensures c.in-None.is (omega (arith, c.full_words.ensures)) (omega (arith, c.full_bytes.ensures)) c.put.ensures c.up_to-from.ensures c.request-n.ensures c.carry.ensures
+    taken c.args.words.now c.args.halves.now c.args.bytes.now c.args.clock.now c.requires c.deliver-a.ensures c.in-None.is (omega arith) (omega arith) c.put.ensures c.up_to-from.ensures c.request-n.ensures c.carry.ensures

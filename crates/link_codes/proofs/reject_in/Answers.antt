@@ -9,9 +9,9 @@ use Rattle.link_codes.proofs.Bodies.{fits, copied}
 use Rattle.link_codes.proofs.reject_in.Goals as goal
 
 pub copy_in-requires : goal.copy_in-requires
-copy_in-requires c = let room : 4872 + 64 ≤ length c.args.bytes.now = omega (arith, c.full_bytes.ensures) in fits 4872 64 c.args.bytes.now (room) c.part-held.ensures
+copy_in-requires c = let room : 4872 + 64 ≤ length c.args.bytes.now = omega arith in fits 4872 64 c.args.bytes.now (room) c.part-held.ensures
 
 pub returns : goal.returns
-returns c = let room : 4872 + 64 ≤ length c.args.bytes.now = omega (arith, c.full_bytes.ensures) in
+returns c = let room : 4872 + 64 ≤ length c.args.bytes.now = omega arith in
     ap (λ (l : List ℕ). record { bytes = l; len = at c.args.words.now 14 })
     (copied 4872 64 c.args.bytes.now (room) c.part-held.ensures c.copy_in.new.store c.copy_in.ensures)

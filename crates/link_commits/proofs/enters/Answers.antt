@@ -25,7 +25,7 @@ returns c = let is-sound : (t : Float) → sound_of (opened_of (parts c.args.wor
     λ t. record {
       sound = is-sound t;
       full = (c.sound.ensures t).full;
-      halves = omega (arith, c.full_halves.ensures);
+      halves = omega arith;
       list = c.if-list-lt-EVENT_WORDS.false;
       outbound = c.if-commit-gt-LAST_REMOTE.false;
       remote = c.if-commit-gt-LAST_REMOTE-2.false;

@@ -4,12 +4,12 @@ use Rattle.link_consumers.proofs.ready.Goals as goal
 
 pub turn_of-t-requires : goal.turn_of-t-requires
 turn_of-t-requires c =
-    codes c.args.status c.args.mode c.args.words.now c.args.halves.now c.args.bytes.now c.args.clock.now c.requires (omega (arith, c.full_bytes.ensures))
+    codes c.args.status c.args.mode c.args.words.now c.args.halves.now c.args.bytes.now c.args.clock.now c.requires (omega arith)
 
 pub carry-e-requires : goal.carry-e-requires
 carry-e-requires c =
-    carrying c.args.status c.args.mode c.args.words.now c.args.halves.now c.args.bytes.now c.args.clock.now c.requires (omega (arith, c.full_bytes.ensures)) c.turn_of-t.ensures
+    carrying c.args.status c.args.mode c.args.words.now c.args.halves.now c.args.bytes.now c.args.clock.now c.requires (omega arith) c.turn_of-t.ensures
 
 pub returns : goal.returns
 returns c =
-    done c.args.status c.args.mode c.args.words.now c.args.halves.now c.args.bytes.now c.args.clock.now c.requires (omega (arith, c.full_bytes.ensures)) c.turn_of-t.ensures _ c.plain.ensures c.carry-e.ensures
+    done c.args.status c.args.mode c.args.words.now c.args.halves.now c.args.bytes.now c.args.clock.now c.requires (omega arith) c.turn_of-t.ensures _ c.plain.ensures c.carry-e.ensures

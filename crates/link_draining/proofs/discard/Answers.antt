@@ -7,7 +7,7 @@ pub used-end-requires : goal.used-end-requires
 used-end-requires c = bounded c.args.words.now c.args.halves.now c.args.bytes.now c.requires.few c.requires.small
 
 pub clear-requires : goal.clear-requires
-clear-requires c = (omega arith, omega (arith, c.used-end.ensures c.args.bytes.now, ends_at c.args.words.now c.args.halves.now c.args.bytes.now c.full_words.ensures c.requires.few, c.requires.small, c.requires.room))
+clear-requires c = (omega arith, omega (arith, c.used-end.ensures c.args.bytes.now, ends_at c.args.words.now c.args.halves.now c.args.bytes.now (omega arith) c.requires.few, c.requires.small, c.requires.room))
 
 pub returns : goal.returns
-returns c = discards c.args.words.now c.args.halves.now c.args.bytes.now c.full_words.ensures c.args.outbound.now _ c.requires c.used-end.result (c.used-end.ensures c.args.bytes.now) c.clear.ensures
+returns c = discards c.args.words.now c.args.halves.now c.args.bytes.now (omega arith) c.args.outbound.now _ c.requires c.used-end.result (c.used-end.ensures c.args.bytes.now) c.clear.ensures

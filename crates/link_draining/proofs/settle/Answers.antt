@@ -6,7 +6,7 @@ pub overflow_add-words : goal.overflow_add-words
 overflow_add-words c = omega (arith, c.requires.next c.if-t.true)
 
 pub returns-then-t-2 : goal.returns-then-t-2
-returns-then-t-2 c = in_both c.args.t c.args.words.now c.args.halves.now c.args.bytes.now c.args.outbound.now c.requires c.full_words.ensures c.if-t.true c.if-t-2.true
+returns-then-t-2 c = in_both c.args.t c.args.words.now c.args.halves.now c.args.bytes.now c.args.outbound.now c.requires (omega arith) c.if-t.true c.if-t-2.true
 
 pub send_reject-requires : goal.send_reject-requires
 send_reject-requires c = room c.args.t c.args.words.now c.args.halves.now c.args.bytes.now c.args.outbound.now c.requires c.if-t.true

@@ -16,7 +16,7 @@ pub done-requires : goal.done-requires
 done-requires c = omega (arith, c.requires.0.list)
 
 pub returns-in-Ok : goal.returns-in-Ok
-returns-in-Ok c = goes c.args.words.now c.args.halves.now c.args.bytes.now c.args.clock.now c.args.list.now c.args.outbound.now c.args.body.now c.args.id c.requires.0 c.requires.1 c.full_halves.ensures c.in-Ok.ensures c.hand.ensures c.done.ensures
+returns-in-Ok c = goes c.args.words.now c.args.halves.now c.args.bytes.now c.args.clock.now c.args.list.now c.args.outbound.now c.args.body.now c.args.id c.requires.0 c.requires.1 (omega arith) c.in-Ok.ensures c.hand.ensures c.done.ensures
 
 pub returns-in-Err : goal.returns-in-Err
 returns-in-Err c = stopped c.args.words.now c.args.halves.now c.args.bytes.now c.args.clock.now c.args.list.now c.args.outbound.now c.args.body.now c.args.id c.requires.0 c.requires.1 c.in-Err.ensures c.refusal.ensures

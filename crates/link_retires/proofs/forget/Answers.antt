@@ -12,4 +12,4 @@ pub clear-requires : goal.clear-requires
 clear-requires c = (omega arith, omega (arith, c.used-end.ensures c.args.bytes.now, ends_at c.args.words.now c.args.halves.now c.args.bytes.now c.requires.few, c.requires.small, c.requires.room))
 
 pub returns : goal.returns
-returns c = record { forgets = λ t. forgets_in c.args.words.now c.args.halves.now c.args.bytes.now c.args.outbound.now _ c.requires c.sized.ensures.words c.full_halves.ensures c.sized.ensures.bytes c.used-end.result (c.used-end.ensures c.args.bytes.now ∙ ends_at c.args.words.now c.args.halves.now c.args.bytes.now c.requires.few) c.clear.ensures t }
+returns c = record { forgets = λ t. forgets_in c.args.words.now c.args.halves.now c.args.bytes.now c.args.outbound.now _ c.requires (omega arith) (omega arith) (omega arith) c.used-end.result (c.used-end.ensures c.args.bytes.now ∙ ends_at c.args.words.now c.args.halves.now c.args.bytes.now c.requires.few) c.clear.ensures t }

@@ -1,4 +1,4 @@
-use Prim.Native.Nat.{◌-◌, ◌≤◌}
+use Prim.Native.Nat.{◌≤◌}
 use mathlib.Core.Path.{◌≡◌}
 use lib.ListN.{take}
 use lib.Seq.{slice}
@@ -14,6 +14,3 @@ invariant-loop-i l =
     (l.count ≤ 256) × (at l.words 12 ≤ 32768) × (l.i ≤ l.count) × (l.sum ≤ at l.words 12)
     × (admitted num_q len_q (admits_queued (policy_in l.words)) l.last l.sum (slice l.i l.count (seats 256 (queued_at l.words l.halves l.bytes)))
     ≡ admitted num_q len_q (admits_queued (policy_in l.words)) (at l.words 2) 0 (take l.count (seats 256 (queued_at l.words l.halves l.bytes))))
-
-abbrev pub decreases-loop-i : goal.decreases-loop-i
-decreases-loop-i l = l.count - l.i

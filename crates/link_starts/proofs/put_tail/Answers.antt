@@ -5,4 +5,4 @@ use Rattle.link_starts.proofs.put_tail.Goals as goal
 
 pub returns : goal.returns
 unfolding puts
-returns c = puts_filled 768 (0 ∷ 0 ∷ 0 ∷ 0 ∷ []) c.args.halves.now (omega (arith, c.full_halves.ensures))
+returns c = puts_filled 768 (0 ∷ 0 ∷ 0 ∷ 0 ∷ []) c.args.halves.now (omega arith)

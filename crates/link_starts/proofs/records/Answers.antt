@@ -4,7 +4,7 @@ use Rattle.link_starts.proofs.Messages.{writing_none, writing_more, writing_all}
 use Rattle.link_starts.proofs.records.Goals as goal
 
 pub loop-i-init : goal.loop-i-init
-loop-i-init c = writing_none _ _ _ _ c.requires.0 c.requires.1 c.requires.2
+loop-i-init c = writing_none _ _ _ _ c.requires (omega arith) (omega arith)
 
 pub overflow_cast-halves : goal.overflow_cast-halves
 overflow_cast-halves c = omega (arith, c.loop-i.invariant.fitting.low c.loop-i.i c.loop-i-test.true)
