@@ -39,7 +39,8 @@ pub fn read_some(stdin: Stdin, chunk: &mut [u8; 65536]) -> usize
 #[derive(Clone, Copy)]
 pub struct TooLong;
 
-// Standard input: the last chunk that was read, how much of it is filled, and the index where it goes on.
+// Standard input: the last chunk that was read, how much of it is filled, and the index where it goes on. Lines are gathered by text::gather_line, whose
+// contract says what they are; std's BufRead would take a line that is too long whole, onto the heap.
 #[derive(Drop)]
 pub struct Input {
     stdin: Stdin,
@@ -125,7 +126,8 @@ impl Output {
         } = self;
     }
 
-    // Makes room for n bytes.
+    // Makes room for n bytes. What print_byte, print_decimal, print_hex16 and print_hex_byte do with it differs in n and in who writes there: two lines
+    // each, and a function that takes both as parameters is no plainer.
     fn make_room(&mut self, n: usize)
         requires { n ≤ 65536 }
         ensures { self.new.used + n ≤ 65536 }
