@@ -91,8 +91,9 @@ impl Input {
     }
 }
 
-// Standard output, and the bytes for it that are not yet written. It is not Drop, so that the caller has to end with finish. Numbers are put there by put_decimal and put_hex16,
-// whose contracts say the digits, and not by `write!`, which would give each function that prints a Result for an error that no one reads.
+// Standard output, and the bytes for it that are not yet written. It is not Drop, so that the caller has to end with finish. Numbers are put there by
+// put_decimal and put_hex16, whose contracts say the digits, and not by `write!`, which would give each function that prints a Result for an error that
+// no one reads.
 pub struct Output {
     pub stdout: Stdout,
     pub bytes: [u8; 65536],
