@@ -8,6 +8,7 @@ use queue::Queue;
 use rules::{Clock, ReceiveMode, Setup, Terms};
 use scripts::print_field;
 
+// The numbers of a setup and of a mode are no From: the types are of the crate `rules`, and the numbers of this print alone.
 fn setup_number(setup: Setup) -> u64 {
     match setup {
         Setup::None => 0,

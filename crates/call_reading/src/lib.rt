@@ -97,6 +97,20 @@ fn read_data(fields: &mut Fields, body: &mut [u8]) -> Option<Call> {
     })
 }
 
+fn read_ready(fields: &mut Fields) -> Option<Call> {
+    Some(Call::Ready {
+        status: fields::status(fields)?,
+        mode: fields.decimal()?,
+    })
+}
+
+fn read_accept(fields: &mut Fields, body: &mut [u8]) -> Option<Call> {
+    Some(Call::Accept {
+        terms: fields::terms(fields)?,
+        len: fields.hex(body)?,
+    })
+}
+
 // No command has the id 0 and an empty body.
 fn read_command(fields: &mut Fields, body: &mut [u8]) -> Option<Call> {
     let restoring = fields.flag()?;
@@ -172,14 +186,8 @@ fn read_call(word: &[u8], fields: &mut Fields, buffers: &mut Buffers) -> Option<
         b"data" => read_data(fields, body)?,
         b"ack" => Call::Ack(fields.decimal()?),
         b"keepalive" => Call::Keepalive,
-        b"ready" => Call::Ready {
-            status: fields::status(fields)?,
-            mode: fields.decimal()?,
-        },
-        b"accept" => Call::Accept {
-            terms: fields::terms(fields)?,
-            len: fields.hex(body)?,
-        },
+        b"ready" => read_ready(fields)?,
+        b"accept" => read_accept(fields, body)?,
         b"reject" => Call::Reject,
         b"prepare_channel" => Call::PrepareChannel(fields::terms(fields)?),
         b"command" => read_command(fields, body)?,

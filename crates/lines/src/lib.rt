@@ -39,7 +39,8 @@ pub fn read_some(stdin: Stdin, chunk: &mut [u8; 65536]) -> usize
 #[derive(Clone, Copy)]
 pub struct TooLong;
 
-// Standard input: the last chunk that was read, how much of it is filled, and the index where it goes on.
+// Standard input: the last chunk that was read, how much of it is filled, and the index where it goes on. Lines are gathered by text::gather_line, whose
+// contract says what they are; std's BufRead would take a line that is too long whole, onto the heap.
 #[derive(Drop)]
 pub struct Input {
     stdin: Stdin,
@@ -90,8 +91,9 @@ impl Input {
     }
 }
 
-// Standard output, and the bytes for it that are not yet written. It is not Drop, so that the caller has to end with finish. Numbers are put there by put_decimal and put_hex16,
-// whose contracts say the digits, and not by `write!`, which would give each function that prints a Result for an error that no one reads.
+// Standard output, and the bytes for it that are not yet written. It is not Drop, so that the caller has to end with finish. Numbers are put there by
+// put_decimal and put_hex16, whose contracts say the digits, and not by `write!`, which would give each function that prints a Result for an error that
+// no one reads.
 pub struct Output {
     pub stdout: Stdout,
     pub bytes: [u8; 65536],
@@ -125,7 +127,8 @@ impl Output {
         } = self;
     }
 
-    // Makes room for n bytes.
+    // Makes room for n bytes. What print_byte, print_decimal, print_hex16 and print_hex_byte do with it differs in n and in who writes there: two lines
+    // each, and a function that takes both as parameters is no plainer.
     fn make_room(&mut self, n: usize)
         requires { n ≤ 65536 }
         ensures { self.new.used + n ≤ 65536 }

@@ -29,6 +29,7 @@ fn start(message_number: u64, outbound: &mut [u8; 65536], queue: &mut [u8; 32768
     starts::start(fresh, &[], &[], b"", policy, b"r", outbound, queue)
 }
 
+// As in `call_making`, which stands on more crates than this one, and is not listed for these few lines.
 fn prepare(s: SessionState) -> Returned {
     let a = commits::prepare_commit(s);
     Returned {

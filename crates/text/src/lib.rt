@@ -19,7 +19,7 @@ pub struct Piece {
     pub next: Option<usize>,
 }
 
-// What b stands for as a hex digit, and 16 where it is none.
+// What b stands for as a hex digit. 16 stands for none, and no Option, since one comparison with a base up to 16 then tests for its digits.
 pub fn digit(b: u8) -> u8
     ensures { result ≡ digit_of b }
 {
@@ -197,7 +197,8 @@ pub fn hex_after(s: &[u8], end: usize, out: &mut [u8]) -> Option<(usize, usize)>
     Some((n, e))
 }
 
-// Puts part after the n bytes of a line. A line that line does not hold stays out, and has the size line.len() + 1.
+// Puts part after the n bytes of a line. A line that line does not hold stays out, and has the size line.len() + 1: a number and no Option, since that
+// size comes in again with the line's next part.
 pub fn gather(line: &mut [u8], n: usize, part: &[u8]) -> usize
     requires { length line.old < 18446744073709551615 }
     ensures { Grown line.old n part.now result line.new }
