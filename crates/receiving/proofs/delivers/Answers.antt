@@ -1,8 +1,5 @@
-use Rattle.receiving.proofs.Choice.{delivers_off, delivers_next, delivers_ahead}
+use Rattle.receiving.proofs.Choice.{delivers_next, delivers_ahead}
 use Rattle.receiving.proofs.delivers.Goals as goal
-
-pub returns-then-not-available : goal.returns-then-not-available
-returns-then-not-available c = delivers_off c.args.status c.args.number c.args.kind c.args.t c.available.ensures (c.if-not-available.true)
 
 pub returns-then-number-t : goal.returns-then-number-t
 returns-then-number-t c = delivers_next c.args.status c.args.number c.args.kind c.args.t c.available.ensures (c.if-not-available.false) c.if-number-t.true c.deliverable.ensures

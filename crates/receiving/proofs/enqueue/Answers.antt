@@ -1,11 +1,8 @@
 use mathlib.Core.Path.{sym, ◌∙◌}
 use native.Mathlib.Omega.{arith}
-use Rattle.receiving.proofs.Later.{used-fits, body-fits, kept_carrying, kept-queued, queue-many, queue_long, enters, joins_carrying, joins_queue}
+use Rattle.receiving.proofs.Later.{kept_carrying, kept-queued, queue-many, queue_long, enters, joins_carrying, joins_queue}
 use Rattle.receiving.proofs.enqueue.Goals as goal
 use Rattle.receiving.proofs.enqueue.Goals.{then-not-find+else-s+else-s-used, else-not-find}
-
-pub overflow_add-used : goal.overflow_add-used
-overflow_add-used c = omega (arith, c.used.ensures, used-fits c.requires, body-fits c.requires)
 
 pub returns-then-s : goal.returns-then-s
 returns-then-s c = queue-many c.requires (sym (c.find.ensures c.args.queue.now) ∙ c.if-not-find.true) c.if-s.true c.fail.ensures

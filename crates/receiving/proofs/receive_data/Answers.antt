@@ -25,9 +25,3 @@ returns-then-not-sound c = unsound (gets_data c.args.status (frame_of c.args.num
 
 pub returns-then-s-ge-GENERATION_LIMIT : goal.returns-then-s-ge-GENERATION_LIMIT
 returns-then-s-ge-GENERATION_LIMIT c = exhausted c.args.status (frame_of c.args.number c.args.kind c.args.body.now) c.args.s c.args.list.now c.args.delivery.now c.args.outbound.now c.args.queue.now c.if-list-lt-EVENT_WORDS.false c.if-delivery-lt-DELIVERY_BYTES.false c.if-outbound-lt-OUTBOUND_BYTES.false c.if-queue-lt-QUEUE_BYTES.false c.if-kind-gt2.false (sym c.sound.ensures.is ∙ c.if-not-sound.false) c.sound.ensures.full c.if-s-ge-GENERATION_LIMIT.true c.refused-then-s-ge-GENERATION_LIMIT.ensures
-
-pub receive-requires : goal.receive-requires
-receive-requires c = (record { good = sym c.sound.ensures.is ∙ c.if-not-sound.false; full = c.sound.ensures.full; list = c.if-list-lt-EVENT_WORDS.false; delivery = c.if-delivery-lt-DELIVERY_BYTES.false; outbound = c.if-outbound-lt-OUTBOUND_BYTES.false; queue = c.if-queue-lt-QUEUE_BYTES.false; low = c.if-s-ge-GENERATION_LIMIT.false }, c.if-kind-gt2.false)
-
-pub returns : goal.returns
-returns c = c.receive.ensures

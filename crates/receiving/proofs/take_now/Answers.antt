@@ -1,24 +1,15 @@
 use mathlib.Core.Path.{◌∙◌}
-use Rattle.receiving.proofs.Now.{ready, now_abandoning, now_refused, put-fits, request-room, now_carrying, now_taken}
+use Rattle.receiving.proofs.Now.{ready, now_refused, put-fits, now_carrying, now_taken}
 use Rattle.receiving.proofs.take_now.Goals as goal
 
 pub deliver-requires : goal.deliver-requires
 deliver-requires c = ready c.requires
-
-pub abandon-requires : goal.abandon-requires
-abandon-requires c = now_abandoning c.requires c.in-Err.ensures c.deliver.auto.list
 
 pub returns-in-Err : goal.returns-in-Err
 returns-in-Err c = now_refused c.requires c.in-Err.ensures c.abandon.ensures
 
 pub put-acks-requires : goal.put-acks-requires
 put-acks-requires c = put-fits c.requires c.in-Ok.ensures
-
-pub up_to-from-requires : goal.up_to-from-requires
-up_to-from-requires c = c.requires.receiving.exact.queued.few
-
-pub request-requires : goal.request-requires
-request-requires c = request-room c.requires c.in-Ok.ensures c.deliver.auto.list
 
 pub carry-requires : goal.carry-requires
 carry-requires c = now_carrying c.requires c.in-Ok.ensures c.put-acks.ensures c.up_to-from.ensures c.request.ensures (c.request.auto.list ∙ c.deliver.auto.list) c.deliver.auto.delivery
