@@ -14,7 +14,7 @@ pub fn emit(list: &mut [u64], n: usize, event: EventCode, number: u64, start: u6
     ensures { list.new ≡ placed list.old (4 * n) (event_number event ∷ number ∷ start ∷ len ∷ []) }
 {
     let i = 4 * n;
-    list[i] = event as u64;
+    list[i] = u64::from(event);
     list[i + 1] = number;
     list[i + 2] = start;
     list[i + 3] = len;
