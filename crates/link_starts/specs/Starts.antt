@@ -1,5 +1,5 @@
 -- The steps of a start on the parts of a session. Assumes nothing.
-use Rattle.std.specs.Prelude.{ℕ, ◌+◌, ◌≤◌, ◌<◌, ◌≡◌, List, [], ◌∷◌, length, take}
+use Rattle.std.specs.Prelude.{ℕ, ◌+◌, ◌≤◌, ◌<◌, ◌≡◌, List, [], ◌∷◌, length, take, Ok}
 use Rattle.rules.specs.declared.Policy.{Policy}
 use Rattle.rules.specs.declared.Refusal.{Refusal}
 use Rattle.rules.specs.Lists.{Bytes}
@@ -8,7 +8,6 @@ use Rattle.events.specs.declared.Stop.{Stop}
 use Rattle.events.specs.declared.Stop.TheVariants.{No, By}
 use Rattle.session.specs.declared.Returned.{Returned}
 use Rattle.starts.specs.declared.Reliable.{Reliable}
-use Rattle.starts.specs.declared.Verdict.TheVariants as Verdicts
 use Rattle.starts.specs.Started.{short_record, Started}
 use Rattle.starts.specs.Records.{reliable_of, verdict_of, NotStarted}
 use Rattle.parts.specs.Parts.{at, section}
@@ -19,7 +18,7 @@ module _ (x : Reliable) (ns ks : List ℕ) (bodies : Bytes) (policy : Policy) (r
   pub record Judged : Type 0 where
     pub outbound : 65536 ≤ n
     pub queue : 32768 ≤ m
-    pub good : verdict_of (short_record ns ks bodies) (start (reliable_of x ns ks bodies) policy reject) ≡ Verdicts.Good
+    pub good : verdict_of (short_record ns ks bodies) (start (reliable_of x ns ks bodies) policy reject) ≡ Ok tt
 
   pub record NotGood (z : Refusal) : Type 0 where
     pub call : (o q : Bytes) → length o ≡ n → length q ≡ m → (r : Returned) → NotStarted z r → Started x ns ks bodies policy reject o q r o q

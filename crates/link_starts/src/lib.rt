@@ -14,7 +14,7 @@ use events::Stop;
 use parts::{Bytes, Halves, LinkAnswer, Words};
 use peer_session::SessionState;
 use rules::{Policy, Refusal};
-use starts::{Reliable, Verdict};
+use starts::Reliable;
 
 // ---- the messages of a record
 
@@ -82,10 +82,9 @@ fn judge(
     if queue < SessionState::QUEUE_BYTES {
         return Stop::By(Refusal::ShortBuffer);
     }
-    let found = starts::judge(record, numbers, lengths, bodies, policy, reject);
-    match found {
-        Verdict::Refused(x) => Stop::By(x),
-        Verdict::Good => Stop::No,
+    match starts::judge(record, numbers, lengths, bodies, policy, reject) {
+        Err(x) => Stop::By(x),
+        Ok(()) => Stop::No,
     }
 }
 

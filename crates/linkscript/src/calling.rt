@@ -3,7 +3,7 @@ use crate::reading::Call;
 use peer_session::SessionState;
 use rules::{Answer, PreparedCommit, Refusal};
 use session::Returned;
-use starts::{LinkClass, Reliable};
+use starts::Reliable;
 
 // A class 2 session with nothing unacked.
 pub fn start(message_number: u64, outbound: &mut [u8; 65536], queue: &mut [u8; 32768]) -> Returned {
@@ -12,7 +12,7 @@ pub fn start(message_number: u64, outbound: &mut [u8; 65536], queue: &mut [u8; 3
         remote_number: 0,
         disposition: 0,
     };
-    let LinkClass::Known(policy) = starts::link_class(2) else {
+    let Some(policy) = starts::link_class(2) else {
         return session::refused(SessionState::none(), Refusal::UnknownCode);
     };
     let zeros = [0u64; 1];
