@@ -3,18 +3,17 @@
 // include/link.h declares what is here.
 #![tactic(auto)]
 
-ghost use Rattle.std.specs.Prelude.{◌≡◌};
+ghost use Rattle.std.specs.Prelude.{◌≡◌, None};
 ghost use Rattle.rules.specs.Start.{link_class};
 ghost use Rattle.starts.specs.Started.{Started};
-ghost use Rattle.starts.specs.Classes.{class_of};
-ghost use Rattle.starts.specs.declared.LinkClass.TheVariants.{Unknown};
+ghost use Rattle.session.specs.Promise.{option_of};
 ghost use Rattle.parts.specs.Parts.{parts};
 ghost use Rattle.parts.specs.Driven.{DrivenStart};
 ghost use Rattle.link_c.specs.Forms.{link_policy_of};
 
 use parts::{Bytes, Halves, LinkAnswer, Words};
 use rules::Policy;
-use starts::{LinkClass, Reliable};
+use starts::Reliable;
 
 pub mod channel; // a channel's setup and its end
 pub mod incoming; // messages and acks that come in
@@ -30,7 +29,7 @@ pub struct LinkPolicy {
 }
 
 fn no_policy() -> LinkPolicy
-    ensures { result ≡ link_policy_of Unknown }
+    ensures { result ≡ link_policy_of None }
 {
     let policy = Policy {
         gap: 0,
@@ -47,15 +46,14 @@ fn no_policy() -> LinkPolicy
 // The policy of a link class.
 #[unsafe(no_mangle)]
 pub extern "C" fn link_class(class: u64) -> LinkPolicy
-    ensures { result ≡ link_policy_of (class_of (link_class class)) }
+    ensures { result ≡ link_policy_of (option_of (link_class class)) }
 {
-    let k = starts::link_class(class);
-    match k {
-        LinkClass::Known(policy) => LinkPolicy {
+    match starts::link_class(class) {
+        Some(policy) => LinkPolicy {
+            policy,
             known: true,
-            policy: policy,
         },
-        LinkClass::Unknown => no_policy(),
+        None => no_policy(),
     }
 }
 

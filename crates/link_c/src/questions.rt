@@ -10,7 +10,6 @@ ghost use Rattle.link_c.specs.Forms.{terms_of};
 
 use parts::{Bytes, Halves, Words};
 use rules::Terms;
-use session::ChannelTerms;
 
 // The terms of a session that waits.
 #[repr(C)]
@@ -20,15 +19,15 @@ pub struct LinkTerms {
     pub waiting: bool,
 }
 
-fn terms_of(t: ChannelTerms) -> LinkTerms
+fn terms_of(t: Option<Terms>) -> LinkTerms
     ensures { result ≡ terms_of t }
 {
     match t {
-        ChannelTerms::Waiting(terms) => LinkTerms {
-            terms: terms,
+        Some(terms) => LinkTerms {
+            terms,
             waiting: true,
         },
-        ChannelTerms::NotWaiting => LinkTerms {
+        None => LinkTerms {
             terms: Terms {
                 number: 0,
                 initiator: false,

@@ -11,8 +11,7 @@ ghost use Rattle.session.specs.Promise.{terms_in_session};
 ghost use Rattle.parts.specs.Parts.{parts, opened_of};
 
 use parts::{Bytes, Halves, Words};
-use rules::Setup;
-use session::ChannelTerms;
+use rules::{Setup, Terms};
 
 // Whether something is left to commit.
 pub fn dirty(words: &Words, halves: &Halves, bytes: &Bytes, clock: &f64) -> bool
@@ -48,15 +47,13 @@ pub fn retired(words: &Words, halves: &Halves, bytes: &Bytes, clock: &f64) -> bo
 }
 
 // The terms of a session that waits.
-pub fn channel_terms(words: &Words, halves: &Halves, bytes: &Bytes, clock: &f64) -> ChannelTerms
+#[tactic(auto, unfolding(parts::specs::Parts::opened_of))]
+pub fn channel_terms(words: &Words, halves: &Halves, bytes: &Bytes, clock: &f64) -> Option<Terms>
     ensures { (o q : Bytes) → result ≡ terms_in_session (state_of (opened_of (parts words.now halves.now bytes.now clock.now)) o q).stage.setup }
 {
-    let setup = link_codes::setup_in(halves, bytes);
-    match setup {
-        Setup::None => ChannelTerms::NotWaiting,
-        Setup::Waiting(terms) => ChannelTerms::Waiting(terms),
-        Setup::Started => ChannelTerms::NotWaiting,
-        Setup::Retired => ChannelTerms::NotWaiting,
+    match link_codes::setup_in(halves, bytes) {
+        Setup::Waiting(terms) => Some(terms),
+        _ => None,
     }
 }
 

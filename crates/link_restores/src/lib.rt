@@ -17,7 +17,7 @@ use parts::{Bytes, Halves, LinkAnswer, Words};
 use peer_session::SessionState;
 use restores::Handoff;
 use rules::Refusal;
-use starts::{Reliable, Verdict};
+use starts::Reliable;
 
 // ---- the handoff
 

@@ -1,4 +1,5 @@
 -- A start on the parts of a session, by what it writes of them. Assumes nothing.
+use Rattle.std.specs.Prelude.{Result, Ok, Err}
 use Prim.Native.Nat.{ℕ, ◌+◌, ◌-◌, ◌≤◌, ◌<◌}
 use mathlib.Core.Path.{◌≡◌, refl, sym, ap, ◌∙◌, subst}
 use mathlib.Core.Bool.{false, true≢false}
@@ -24,8 +25,6 @@ use Rattle.outbox.specs.declared.Outbox.{Outbox}
 use Rattle.peer_session.specs.declared.SessionState.{SessionState}
 use Rattle.peer_session.specs.New.{New}
 use Rattle.starts.specs.declared.Reliable.{Reliable}
-use Rattle.starts.specs.declared.Verdict.{Verdict}
-use Rattle.starts.specs.declared.Verdict.TheVariants as Verdicts
 use Rattle.starts.specs.Started.{short_record, Started}
 use Rattle.starts.specs.Records.{reliable_of, Recorded, Rejecting, Beginning, Begun, verdict_of}
 use Rattle.starts.proofs.Messages.{Long, long_record}
@@ -54,12 +53,12 @@ module _ (x : Reliable) (ns ks : List ℕ) (bodies : Bytes) (policy : Policy) (r
     pub short-queue : m < 32768 → NotGood x ns ks bodies policy reject n m ShortBuffer
     short-queue h = record { call = λ o q eo eq r t. Plain.queue-short x ns ks bodies policy reject o q (omega (arith, eo)) r (omega (arith, eq)) t }
 
-    module _ (lq : 32768 ≤ m) {v : Verdict} (e : v ≡ verdict_of (short_record ns ks bodies) (start (reliable_of x ns ks bodies) policy reject)) where
-      pub not_good : (z : Refusal) → v ≡ Verdicts.Refused z → NotGood x ns ks bodies policy reject n m z
+    module _ (lq : 32768 ≤ m) {v : Result (Unit {0}) Refusal} (e : v ≡ verdict_of (short_record ns ks bodies) (start (reliable_of x ns ks bodies) policy reject)) where
+      pub not_good : (z : Refusal) → v ≡ Err z → NotGood x ns ks bodies policy reject n m z
       not_good z f =
           record { call = λ o q eo eq r t. Plain.record_refused x ns ks bodies policy reject o q (omega (arith, eo)) (omega (arith, eq)) r z (sym f ∙ e) t }
 
-      pub is-good : v ≡ Verdicts.Good → Judged x ns ks bodies policy reject n m
+      pub is-good : v ≡ Ok tt → Judged x ns ks bodies policy reject n m
       is-good f = record { outbound = lo; queue = lq; good = sym e ∙ f }
 
 -- what the tests found, by their stop

@@ -6,7 +6,6 @@ use Rattle.rules.specs.Lists.{Bytes}
 use Rattle.rules.specs.Start.{start}
 use Rattle.session.specs.declared.Returned.{Returned}
 use Rattle.starts.specs.declared.Reliable.{Reliable}
-use Rattle.starts.specs.declared.Verdict.TheVariants as Verdicts
 use Rattle.starts.specs.Started.{short_record, Started}
 use Rattle.starts.specs.Records.{reliable_of, verdict_of, NotStarted}
 use Rattle.parts.specs.Parts.{at, section}
@@ -17,7 +16,7 @@ module _ (x : Reliable) (ns ks : List ℕ) (bodies : Bytes) (policy : Policy) (r
   pub record Judged : Type 0 where
     pub outbound : 65536 ≤ n
     pub queue : 32768 ≤ m
-    pub good : verdict_of (short_record ns ks bodies) (start (reliable_of x ns ks bodies) policy reject) ≡ Verdicts.Good
+    pub good : verdict_of (short_record ns ks bodies) (start (reliable_of x ns ks bodies) policy reject) ≡ Ok tt
 
   pub record NotGood (z : Refusal) : Type 0 where
     pub call : (o q : Bytes) → length o ≡ n → length q ≡ m → (r : Returned) → NotStarted z r → Started x ns ks bodies policy reject o q r o q

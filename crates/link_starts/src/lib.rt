@@ -13,7 +13,7 @@ ghost use Rattle.link_starts.specs.Starts.{head, Judged, FoundStart, BodyIn};
 use parts::{Bytes, Halves, LinkAnswer, Words};
 use peer_session::SessionState;
 use rules::{Policy, Refusal};
-use starts::{Reliable, Verdict};
+use starts::Reliable;
 
 // ---- the messages of a record
 
@@ -75,11 +75,7 @@ fn judge(
     if queue < SessionState::QUEUE_BYTES {
         return Err(Refusal::ShortBuffer);
     }
-    let found = starts::judge(record, numbers, lengths, bodies, policy, reject);
-    match found {
-        Verdict::Refused(x) => Err(x),
-        Verdict::Good => Ok(()),
-    }
+    starts::judge(record, numbers, lengths, bodies, policy, reject)
 }
 
 // The numbers of a new session before its arrays: nothing is queued, no ack waits and there is no handoff.

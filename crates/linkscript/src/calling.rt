@@ -3,7 +3,7 @@ use crate::reading::Call;
 use peer_session::SessionState;
 use rules::{Answer, PreparedCommit, Refusal};
 use session::Returned;
-use starts::{LinkClass, Reliable};
+use starts::Reliable;
 
 // A session, the record that the next completion takes, and what its calls are lent: a body, and the stores.
 #[derive(Drop)]
@@ -23,7 +23,7 @@ fn start(message_number: u64, outbound: &mut [u8; 65536], queue: &mut [u8; 32768
         remote_number: 0,
         disposition: 0,
     };
-    let LinkClass::Known(policy) = starts::link_class(2) else {
+    let Some(policy) = starts::link_class(2) else {
         return session::refused(SessionState::none(), Refusal::UnknownCode);
     };
     starts::start(fresh, &[], &[], b"", policy, b"r", outbound, queue)

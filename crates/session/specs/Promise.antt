@@ -1,6 +1,7 @@
 -- What every exported call promises: one equation with the rule book, for every session, buffer and argument. Assumes nothing.
-use Rattle.std.specs.Prelude.{ℕ, ◌≤◌, ◌≡◌, List, length, if◌then◌else◌}
-use Rattle.std.proofs.Math.Option.{Option, none, some}
+use Rattle.std.specs.Prelude.{ℕ, ◌≤◌, ◌≡◌, List, length, if◌then◌else◌, Option, Some, None}
+use Rattle.std.proofs.Math.Option as Book
+use Rattle.std.proofs.Math.Option.{none, some}
 use Rattle.rules.specs.declared.Answer.{Answer}
 use Rattle.rules.specs.declared.Answer.TheVariants.{Refused}
 use Rattle.rules.specs.declared.Refusal.{Refusal}
@@ -18,8 +19,6 @@ use Rattle.peer_session.specs.View.{Held, held, encode, state_of}
 use Rattle.peer_session.specs.Sound.{sound_of}
 use Rattle.session.specs.declared.Returned.{Returned}
 use Rattle.session.specs.declared.Told.{Told}
-use Rattle.session.specs.declared.ChannelTerms.{ChannelTerms}
-use Rattle.session.specs.declared.ChannelTerms.TheVariants.{Waiting, NotWaiting}
 
 -- ---- what a caller finds after a call
 
@@ -100,9 +99,10 @@ pub record Turned (s : SessionState) (x : Refusal) (r : Returned) : Type 0 where
 
 -- ---- the terms of a session that waits
 
-abbrev pub offered : Option Terms → ChannelTerms
-offered none = NotWaiting
-offered (some t) = Waiting t
+-- the rule book's option, as Rust's
+abbrev pub option_of : {T : Type 0} → Book.Option T → Option T
+option_of none = None
+option_of (some x) = Some x
 
-abbrev pub terms_in_session : Setup → ChannelTerms
-terms_in_session setup = offered (terms_in setup)
+abbrev pub terms_in_session : Setup → Option Terms
+terms_in_session setup = option_of (terms_in setup)

@@ -28,13 +28,6 @@ pub struct Told {
     pub events: usize,
 }
 
-// The Rust's `Result` of `channel_terms`.
-#[derive(Clone, Copy)]
-pub enum ChannelTerms {
-    Waiting(Terms),
-    NotWaiting,
-}
-
 // A refusal that changes nothing.
 pub fn refused(s: SessionState, x: Refusal) -> Returned
     ensures { Turned s x result }
@@ -81,16 +74,13 @@ pub fn retired(s: SessionState) -> bool
     }
 }
 
-pub fn channel_terms(s: SessionState) -> ChannelTerms
+// The terms of a session that waits.
+pub fn channel_terms(s: SessionState) -> Option<Terms>
     ensures { (o q : Bytes) → result ≡ terms_in_session (state_of s o q).stage.setup }
 {
-    let g = s.stage;
-    let setup = g.setup;
-    match setup {
-        Setup::None => ChannelTerms::NotWaiting,
-        Setup::Waiting(terms) => ChannelTerms::Waiting(terms),
-        Setup::Started => ChannelTerms::NotWaiting,
-        Setup::Retired => ChannelTerms::NotWaiting,
+    match s.stage.setup {
+        Setup::Waiting(terms) => Some(terms),
+        _ => None,
     }
 }
 

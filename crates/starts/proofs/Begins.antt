@@ -1,5 +1,5 @@
 -- The session and the stores that a start leaves, and its promise. Assumes nothing.
-use Rattle.std.specs.Prelude.{if◌then◌else◌}
+use Rattle.std.specs.Prelude.{if◌then◌else◌, Err}
 use mathlib.Core.Path.{◌≡◌, refl, sym, ap, ◌∙◌}
 use mathlib.Core.Bool.{Bool, true, false, ◌||◌}
 use mathlib.Core.List.{List, [], ◌++◌, map, append-nil}
@@ -31,7 +31,6 @@ use Rattle.session.specs.declared.Returned.{Returned}
 use Rattle.session.proofs.Promises.{exit_cong}
 use Rattle.session.specs.Promise.{lent}
 use Rattle.starts.specs.declared.Reliable as Code
-use Rattle.starts.specs.declared.Verdict.TheVariants as Found
 use Rattle.starts.specs.Started.{messages_of, short_record, begins, start_promise, Started}
 use Rattle.starts.specs.Records.{reliable_of, Recorded, Rejecting, Begun, verdict_of, NotStarted}
 use Rattle.starts.proofs.Messages.{Long, long_record, length-messages, packed-messages, recorded-messages, recorded-unacked}
@@ -126,14 +125,14 @@ module _ (c : Code.Reliable) (ns ks : List ℕ) (b : Bytes) (policy : Policy) (r
       unfolding short
       long-stores l d = rw (le-ltb (length o) 65536 ho, le-ltb (length q) 32768 hq)
 
-      pub record_refused : (x : Returned) (y : Refusal) → Found.Refused y ≡ verdict_of (short_record ns ks b) (start (reliable_of c ns ks b) policy reject)
+      pub record_refused : (x : Returned) (y : Refusal) → Err y ≡ verdict_of (short_record ns ks b) (start (reliable_of c ns ks b) policy reject)
           → NotStarted y x → Started c ns ks b policy reject o q x o q
       unfolding start_promise
       record_refused x y e n l d =
           exit_cong n.session n.answer n.events refl
           ∙ sym (by_verdict (short (takes false false true true) (lent l d o q)) (short_record ns ks b) (start (reliable_of c ns ks b) policy reject) (lent l d o q) (long-stores l d) e)
         where
-          by_verdict : (t s : Bool) (z : Start) (l : Lent) → t ≡ false → Found.Refused y ≡ verdict_of s z
+          by_verdict : (t s : Bool) (z : Start) (l : Lent) → t ≡ false → Err y ≡ verdict_of s z
               → (if t || s then begins (unstarted ShortBuffer) l else begins z l) ≡ begins (unstarted y) l
           by_verdict true s z l f e = absurd (let z : ◌≡◌ {A = ℕ} 0 1 = cc in omega arith)
           by_verdict false true z l f e = let g : y ≡ ShortBuffer = cc in ap (λ (w : Refusal). begins (unstarted w) l) (sym g)

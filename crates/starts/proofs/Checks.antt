@@ -1,5 +1,5 @@
 -- Refusals 1, 2 and 3 of a start, test by test. Assumes nothing.
-use Rattle.std.specs.Prelude.{if◌then◌else◌}
+use Rattle.std.specs.Prelude.{if◌then◌else◌, Result, Ok, Err}
 use mathlib.Core.Path.{◌≡◌, refl, sym, ap, ◌∙◌}
 use mathlib.Core.Bool.{Bool, true, false, not, ◌&&◌, ◌||◌}
 use mathlib.Core.List.{List, [], ◌∷◌}
@@ -15,7 +15,6 @@ use Rattle.rules.specs.Lists.{Bytes, every, total, itself, all, rising}
 use Rattle.rules.specs.Start.{Reliable, started, unstarted, start, new, good_messages, good_record, good_policy, good_reject}
 use Rattle.rules.proofs.Lists.{and_left, and_right, Every, every_true}
 use Rattle.starts.specs.declared.Reliable as Code
-use Rattle.starts.specs.declared.Verdict.TheVariants as Found
 use Rattle.starts.specs.Started.{messages_of, short_record}
 use Rattle.starts.specs.Records.{reliable_of, under, GoodMessages, GoodRecord, Fitting, Beginning, verdict_of}
 use Rattle.starts.proofs.Messages.{Long, long_record, slice_tests, good_slices}
@@ -122,38 +121,38 @@ by_reject b h = rw (le-leb 1 (length b) h) (last_test (leb (length b) 64))
 -- ---- the verdict, test by test
 
 module _ (r : Reliable) (p : Policy) (j : Bytes) where
-  pub found-short : {s : Bool} → s ≡ true → Found.Refused ShortBuffer ≡ verdict_of s (start r p j)
+  pub found-short : {s : Bool} → s ≡ true → Err ShortBuffer ≡ verdict_of s (start r p j)
   found-short e = rw e
 
   module _ {s : Bool} (long : s ≡ false) where
-    pub found-code : 4 < r.disposition → Found.Refused UnknownCode ≡ verdict_of s (start r p j)
+    pub found-code : 4 < r.disposition → Err UnknownCode ≡ verdict_of s (start r p j)
     unfolding start
     found-code h = rw (long, lt-ltb 4 r.disposition h)
 
     module _ (known : r.disposition ≤ 4) where
-      pub found_record : good_record r ≡ false → Found.Refused BadRecord ≡ verdict_of s (start r p j)
+      pub found_record : good_record r ≡ false → Err BadRecord ≡ verdict_of s (start r p j)
       unfolding start
       found_record e = rw (long, le-ltb 4 r.disposition known, e)
 
       module _ (good : good_record r ≡ true) where
-        pub found-policy : good_policy p ≡ false → Found.Refused BadRecord ≡ verdict_of s (start r p j)
+        pub found-policy : good_policy p ≡ false → Err BadRecord ≡ verdict_of s (start r p j)
         unfolding start
         found-policy e = by_tests s (ltb 4 r.disposition) (good_record r) (good_policy p) (good_reject j) long (le-ltb 4 r.disposition known) good e
           where
             by_tests : (s c g q k : Bool) → s ≡ false → c ≡ false → g ≡ true → q ≡ false
-                → Found.Refused BadRecord
+                → Err BadRecord
                 ≡ verdict_of s (if c then unstarted UnknownCode else if g && q && k then started (new r p j) else unstarted BadRecord)
             by_tests s c g q k a b d e = rw (a, b, d, e)
 
         module _ (fine : good_policy p ≡ true) where
           pub by_reject_body : (k : Bool) → good_reject j ≡ k
-              → verdict_of s (start r p j) ≡ (if k then Found.Good else Found.Refused BadRecord)
+              → verdict_of s (start r p j) ≡ (if k then Ok tt else Err BadRecord)
           unfolding start
           by_reject_body k e = by_tests s (ltb 4 r.disposition) (good_record r) (good_policy p) (good_reject j) k long (le-ltb 4 r.disposition known) good fine e
             where
               by_tests : (s c g q h k : Bool) → s ≡ false → c ≡ false → g ≡ true → q ≡ true → h ≡ k
                   → verdict_of s (if c then unstarted UnknownCode else if g && q && h then started (new r p j) else unstarted BadRecord)
-                  ≡ (if k then Found.Good else Found.Refused BadRecord)
+                  ≡ (if k then Ok tt else Err BadRecord)
               by_tests s c g q h true a b d f e = rw (a, b, d, f, e)
               by_tests s c g q h false a b d f e = rw (a, b, d, f, e)
 
@@ -166,16 +165,16 @@ pub record Good (s : Bool) (r : Reliable) (p : Policy) (j : Bytes) : Type 0 wher
   pub body : good_reject j ≡ true
   pub starts : start r p j ≡ started (new r p j)
 
-pub found-good : (s : Bool) (r : Reliable) (p : Policy) (j : Bytes) → verdict_of s (start r p j) ≡ Found.Good → Good s r p j
+pub found-good : (s : Bool) (r : Reliable) (p : Policy) (j : Bytes) → verdict_of s (start r p j) ≡ Ok tt → Good s r p j
 unfolding start
 found-good s r p j e =
     let f = by_tests s (ltb 4 r.disposition) (good_record r) (good_policy p) (good_reject j) e in
     record { long = f.0; known = f.1; fine = f.2; body = f.3; starts = f.4 }
   where
-    never : {x : Refusal} → Found.Refused x ≡ Found.Good → ⊥
+    never : {x : Refusal} → ◌≡◌ {A = Result (Unit {0}) Refusal} (Err x) (Ok tt) → ⊥
     never p = let z : ◌≡◌ {A = ℕ} 0 1 = cc in omega arith
 
-    by_tests : (s c g q k : Bool) → verdict_of s (if c then unstarted UnknownCode else if g && q && k then started (new r p j) else unstarted BadRecord) ≡ Found.Good
+    by_tests : (s c g q k : Bool) → verdict_of s (if c then unstarted UnknownCode else if g && q && k then started (new r p j) else unstarted BadRecord) ≡ Ok tt
         → (s ≡ false) × (c ≡ false) × (g ≡ true) × (k ≡ true)
         × ((if c then unstarted UnknownCode else if g && q && k then started (new r p j) else unstarted BadRecord) ≡ started (new r p j))
     by_tests true c g q k e = absurd (never e)

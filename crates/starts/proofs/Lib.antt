@@ -3,5 +3,4 @@ pub mod Slices
 pub mod Messages
 pub mod Checks
 pub mod Begins
-pub mod Classes
 pub mod Lasting

@@ -1,4 +1,3 @@
 -- The promise of a start, and the contracts of its parts.
 pub mod Started
 pub mod Records
-pub mod Classes

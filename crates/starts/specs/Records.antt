@@ -1,5 +1,5 @@
 -- A record whose messages come as lent slices: its checks, and what is made of it. The contracts of the parts of a start. Assumes nothing.
-use Rattle.std.specs.Prelude.{ℕ, ◌≤◌, ◌<◌, ◌≡◌, Bool, true, false, List, [], ◌∷◌, length, take, get_or, ltb}
+use Rattle.std.specs.Prelude.{ℕ, ◌≤◌, ◌<◌, ◌≡◌, Bool, true, false, List, [], ◌∷◌, length, take, get_or, ltb, Result, Ok, Err}
 use Rattle.rules.specs.declared.Answer.TheVariants.{Refused}
 use Rattle.rules.specs.declared.Policy.{Policy}
 use Rattle.rules.specs.declared.Refusal.{Refusal}
@@ -15,8 +15,6 @@ use Rattle.peer_session.specs.View.{held, encode, reject_of}
 use Rattle.peer_session.specs.New.{nothing}
 use Rattle.session.specs.declared.Returned.{Returned}
 use Rattle.starts.specs.declared.Reliable as Code
-use Rattle.starts.specs.declared.Verdict.{Verdict}
-use Rattle.starts.specs.declared.Verdict.TheVariants as Found
 use Rattle.starts.specs.Started.{messages_of, short_record}
 
 -- the rule book's record
@@ -72,10 +70,10 @@ abbrev pub Begun : Code.Reliable → List ℕ → List ℕ → Policy → Bytes 
 Begun x ns ks policy reject r = (b : Bytes) → short_record ns ks b ≡ false → held r ≡ encode (new (reliable_of x ns ks b) policy reject)
 
 -- by refusal 1 of the record, and by what the rule book says of the start
-abbrev pub verdict_of : Bool → Start → Verdict
-verdict_of true s = Found.Refused ShortBuffer
-verdict_of false (started t) = Found.Good
-verdict_of false (unstarted x) = Found.Refused x
+abbrev pub verdict_of : Bool → Start → Result (Unit {0}) Refusal
+verdict_of true s = Err ShortBuffer
+verdict_of false (started t) = Ok tt
+verdict_of false (unstarted x) = Err x
 
 pub record NotStarted (x : Refusal) (r : Returned) : Type 0 where
   pub session : held r.session ≡ nothing

@@ -6,7 +6,7 @@ ghost use Rattle.rules.specs.Lists.{total, itself, all, rising};
 ghost use Rattle.rules.specs.Start.{good_policy, good_reject, start};
 ghost use Rattle.rules.specs.Buffers.{filled};
 ghost use Rattle.rules.specs.Start.{policy_of, link_class};
-ghost use Rattle.starts.specs.Classes.{class_of};
+ghost use Rattle.session.specs.Promise.{option_of};
 ghost use Rattle.starts.specs.Started.{short_record, Started};
 ghost use Rattle.starts.specs.Records.{reliable_of, under, GoodMessages, GoodRecord, Fitting, Recorded, Rejecting, Beginning, Begun, verdict_of, NotStarted};
 
@@ -22,13 +22,6 @@ pub struct Reliable {
     pub message_number: u64,
     pub remote_number: u64,
     pub disposition: u64,
-}
-
-// What the checks of a start find.
-#[derive(Clone, Copy)]
-pub enum Verdict {
-    Good,
-    Refused(Refusal),
 }
 
 // ---- the checks of a record
@@ -196,25 +189,25 @@ pub fn judge(
     bodies: &[u8],
     policy: Policy,
     reject: &[u8],
-) -> Verdict
+) -> Result<(), Refusal>
     ensures { result ≡ verdict_of (short_record numbers.now lengths.now bodies.now) (start (reliable_of «record» numbers.now lengths.now bodies.now) policy reject.now) }
 {
     if short_record(numbers, lengths, bodies) {
-        return Verdict::Refused(Refusal::ShortBuffer);
+        return Err(Refusal::ShortBuffer);
     }
     if record.disposition > Disposition::OutboundReject as u64 {
-        return Verdict::Refused(Refusal::UnknownCode);
+        return Err(Refusal::UnknownCode);
     }
     if !good_record(record, numbers, lengths) {
-        return Verdict::Refused(Refusal::BadRecord);
+        return Err(Refusal::BadRecord);
     }
     if !good_policy(policy) {
-        return Verdict::Refused(Refusal::BadRecord);
+        return Err(Refusal::BadRecord);
     }
     if !good_reject(reject) {
-        return Verdict::Refused(Refusal::BadRecord);
+        return Err(Refusal::BadRecord);
     }
-    Verdict::Good
+    Ok(())
 }
 
 // The session of a record that is good.
@@ -264,8 +257,7 @@ pub fn start(
     if queue.len() < SessionState::QUEUE_BYTES {
         return refused(Refusal::ShortBuffer);
     }
-    let found = judge(record, numbers, lengths, bodies, policy, reject);
-    if let Verdict::Refused(x) = found {
+    if let Err(x) = judge(record, numbers, lengths, bodies, policy, reject) {
         return refused(x);
     }
     let session = begun(record, numbers, lengths, policy, reject);
@@ -282,13 +274,6 @@ pub fn start(
 
 // ---- link classes
 
-// The policy of a class, if it is one of the four.
-#[derive(Clone, Copy)]
-pub enum LinkClass {
-    Known(Policy),
-    Unknown,
-}
-
 pub fn policy(gap: u64, messages: usize, bytes: usize, body: usize) -> Policy
     ensures { result ≡ policy_of gap messages bytes body }
 {
@@ -300,20 +285,16 @@ pub fn policy(gap: u64, messages: usize, bytes: usize, body: usize) -> Policy
     }
 }
 
-pub fn link_class(class: u64) -> LinkClass
-    ensures { result ≡ class_of (link_class class) }
+// The policy of a class, if it is one of the four.
+#[tactic(auto, unfolding(rules::specs::Start::link_class))]
+pub fn link_class(class: u64) -> Option<Policy>
+    ensures { result ≡ option_of (link_class class) }
 {
-    if class == 0 {
-        return LinkClass::Known(policy(8, 8, 1024, 128));
+    match class {
+        0 => Some(policy(8, 8, 1024, 128)),
+        1 => Some(policy(64, 64, 8192, 512)),
+        2 => Some(policy(256, 256, 32768, 4096)),
+        3 => Some(policy(256, 256, 32768, 16384)),
+        _ => None,
     }
-    if class == 1 {
-        return LinkClass::Known(policy(64, 64, 8192, 512));
-    }
-    if class == 2 {
-        return LinkClass::Known(policy(256, 256, 32768, 4096));
-    }
-    if class == 3 {
-        return LinkClass::Known(policy(256, 256, 32768, 16384));
-    }
-    LinkClass::Unknown
 }

@@ -7,8 +7,8 @@ returns-then-outbound-lt-OUTBOUND_BYTES c = short-outbound c.args.«record» c.a
 pub returns-then-queue-lt-QUEUE_BYTES : goal.returns-then-queue-lt-QUEUE_BYTES
 returns-then-queue-lt-QUEUE_BYTES c = short-queue c.args.«record» c.args.numbers.now c.args.lengths.now c.args.bodies.now c.args.policy c.args.reject.now c.if-outbound-lt-OUTBOUND_BYTES.false c.if-queue-lt-QUEUE_BYTES.true
 
-pub returns-in-Refused : goal.returns-in-Refused
-returns-in-Refused c = not_good c.args.«record» c.args.numbers.now c.args.lengths.now c.args.bodies.now c.args.policy c.args.reject.now c.if-outbound-lt-OUTBOUND_BYTES.false c.if-queue-lt-QUEUE_BYTES.false c.judge-found.ensures _ c.in-Refused.is
+pub returns-in-Err : goal.returns-in-Err
+returns-in-Err c = not_good c.args.«record» c.args.numbers.now c.args.lengths.now c.args.bodies.now c.args.policy c.args.reject.now c.if-outbound-lt-OUTBOUND_BYTES.false c.if-queue-lt-QUEUE_BYTES.false c.judge.ensures _ c.in-Err.is
 
-pub returns-in-Good : goal.returns-in-Good
-returns-in-Good c = is-good c.args.«record» c.args.numbers.now c.args.lengths.now c.args.bodies.now c.args.policy c.args.reject.now c.if-outbound-lt-OUTBOUND_BYTES.false c.if-queue-lt-QUEUE_BYTES.false c.judge-found.ensures c.in-Good.is
+pub returns-in-Ok : goal.returns-in-Ok
+returns-in-Ok c = is-good c.args.«record» c.args.numbers.now c.args.lengths.now c.args.bodies.now c.args.policy c.args.reject.now c.if-outbound-lt-OUTBOUND_BYTES.false c.if-queue-lt-QUEUE_BYTES.false c.judge.ensures c.in-Ok.is

@@ -16,24 +16,24 @@ returns-then-outbound-lt-OUTBOUND_BYTES c = outbound-short _ _ _ _ _ _ _ _ _ c.i
 pub returns-then-queue-lt-QUEUE_BYTES : goal.returns-then-queue-lt-QUEUE_BYTES
 returns-then-queue-lt-QUEUE_BYTES c = queue-short _ _ _ _ _ _ _ _ c.if-outbound-lt-OUTBOUND_BYTES.false _ c.if-queue-lt-QUEUE_BYTES.true c.refused-then-queue-lt-QUEUE_BYTES.ensures
 
-pub returns-in-Refused : goal.returns-in-Refused
-returns-in-Refused c =
-    record_refused _ _ _ _ _ _ _ _ c.if-outbound-lt-OUTBOUND_BYTES.false c.if-queue-lt-QUEUE_BYTES.false _ _ (sym c.in-Refused.is ∙ c.judge-found.ensures)
-    c.refused-in-Refused.ensures
+pub returns-in-Err : goal.returns-in-Err
+returns-in-Err c =
+    record_refused _ _ _ _ _ _ _ _ c.if-outbound-lt-OUTBOUND_BYTES.false c.if-queue-lt-QUEUE_BYTES.false _ _ (sym c.in-Err.is ∙ c.judge.ensures)
+    c.refused-in-Err.ensures
 
 pub begun-session-requires : goal.begun-session-requires
-begun-session-requires c = let good-at : Type 0 = Good (short_record c.args.numbers.now c.args.lengths.now c.args.bodies.now) (reliable_of c.args.«record» c.args.numbers.now c.args.lengths.now c.args.bodies.now) c.args.policy c.args.reject.now in let good : good-at = found-good _ _ _ _ (sym c.judge-found.ensures ∙ c.in_default.is) in let beginning : let a = c.args in Beginning a.«record» a.numbers.now a.lengths.now a.reject.now = good_beginning _ _ _ _ _ _ (good) in beginning
+begun-session-requires c = let good-at : Type 0 = Good (short_record c.args.numbers.now c.args.lengths.now c.args.bodies.now) (reliable_of c.args.«record» c.args.numbers.now c.args.lengths.now c.args.bodies.now) c.args.policy c.args.reject.now in let good : good-at = found-good _ _ _ _ (sym c.judge.ensures ∙ c.in_default.is) in let beginning : let a = c.args in Beginning a.«record» a.numbers.now a.lengths.now a.reject.now = good_beginning _ _ _ _ _ _ (good) in beginning
 
 pub body_bytes-n-requires : goal.body_bytes-n-requires
-body_bytes-n-requires c = let good-at : Type 0 = Good (short_record c.args.numbers.now c.args.lengths.now c.args.bodies.now) (reliable_of c.args.«record» c.args.numbers.now c.args.lengths.now c.args.bodies.now) c.args.policy c.args.reject.now in let good : good-at = found-good _ _ _ _ (sym c.judge-found.ensures ∙ c.in_default.is) in let beginning : let a = c.args in Beginning a.«record» a.numbers.now a.lengths.now a.reject.now = good_beginning _ _ _ _ _ _ (good) in ((beginning).fitting.enough, (beginning).fitting.small)
+body_bytes-n-requires c = let good-at : Type 0 = Good (short_record c.args.numbers.now c.args.lengths.now c.args.bodies.now) (reliable_of c.args.«record» c.args.numbers.now c.args.lengths.now c.args.bodies.now) c.args.policy c.args.reject.now in let good : good-at = found-good _ _ _ _ (sym c.judge.ensures ∙ c.in_default.is) in let beginning : let a = c.args in Beginning a.«record» a.numbers.now a.lengths.now a.reject.now = good_beginning _ _ _ _ _ _ (good) in ((beginning).fitting.enough, (beginning).fitting.small)
 
 pub fill-requires : goal.fill-requires
-fill-requires c = let good-at : Type 0 = Good (short_record c.args.numbers.now c.args.lengths.now c.args.bodies.now) (reliable_of c.args.«record» c.args.numbers.now c.args.lengths.now c.args.bodies.now) c.args.policy c.args.reject.now in let good : good-at = found-good _ _ _ _ (sym c.judge-found.ensures ∙ c.in_default.is) in let beginning : let a = c.args in Beginning a.«record» a.numbers.now a.lengths.now a.reject.now = good_beginning _ _ _ _ _ _ (good) in
+fill-requires c = let good-at : Type 0 = Good (short_record c.args.numbers.now c.args.lengths.now c.args.bodies.now) (reliable_of c.args.«record» c.args.numbers.now c.args.lengths.now c.args.bodies.now) c.args.policy c.args.reject.now in let good : good-at = found-good _ _ _ _ (sym c.judge.ensures ∙ c.in_default.is) in let beginning : let a = c.args in Beginning a.«record» a.numbers.now a.lengths.now a.reject.now = good_beginning _ _ _ _ _ _ (good) in
     let l : Long c.args.numbers.now c.args.lengths.now c.args.bodies.now = long_record _ _ _ (good).long in
     (omega (arith, c.body_bytes-n.ensures, l.bytes), omega (arith, c.body_bytes-n.ensures, (beginning).fitting.small, c.if-outbound-lt-OUTBOUND_BYTES.false))
 
 pub returns : goal.returns
-returns c = let good-at : Type 0 = Good (short_record c.args.numbers.now c.args.lengths.now c.args.bodies.now) (reliable_of c.args.«record» c.args.numbers.now c.args.lengths.now c.args.bodies.now) c.args.policy c.args.reject.now in let good : good-at = found-good _ _ _ _ (sym c.judge-found.ensures ∙ c.in_default.is) in
+returns c = let good-at : Type 0 = Good (short_record c.args.numbers.now c.args.lengths.now c.args.bodies.now) (reliable_of c.args.«record» c.args.numbers.now c.args.lengths.now c.args.bodies.now) c.args.policy c.args.reject.now in let good : good-at = found-good _ _ _ _ (sym c.judge.ensures ∙ c.in_default.is) in
     record_started _ _ _ _ _ _ _ _ c.if-outbound-lt-OUTBOUND_BYTES.false c.if-queue-lt-QUEUE_BYTES.false c.begun-session.result _ _ (good) c.begun-session.ensures
     (c.fill.ensures ∙ ap (λ (n : ℕ). filled (length c.args.outbound.now) (take n c.args.bodies.now)) c.body_bytes-n.ensures)
     c.clear.ensures
