@@ -1,16 +1,16 @@
 -- Refusals 1, 2 and 3 of a start, test by test. Assumes nothing.
 use Rattle.std.specs.Prelude.{if◌then◌else◌, Result, Ok, Err}
-use mathlib.Core.Path.{◌≡◌, refl, sym, ap, ◌∙◌}
-use mathlib.Core.Bool.{Bool, true, false, not, ◌&&◌, ◌||◌}
+use mathlib.Core.Path.{◌≡◌, refl, sym, ◌∙◌}
+use mathlib.Core.Bool.{Bool, true, false, ◌&&◌}
 use mathlib.Core.List.{List, [], ◌∷◌}
 use Prim.Native.Nat.{ℕ, zero, suc, ◌≤◌, ◌<◌}
 use native.Mathlib.Omega.{arith}
 use lib.ListN.{length, take, get_or}
 use lib.Dec.{leb, ltb}
-use borrow.Author.Tests.{le-leb, lt-leb, lt-ltb, le-ltb, ltb-true, ltb-false, leb-true, leb-false}
+use borrow.Author.Tests.{le-leb, lt-leb, lt-ltb, le-ltb, ltb-true, ltb-false, leb-true}
 use Rattle.rules.specs.declared.Policy.{Policy}
 use Rattle.rules.specs.declared.Refusal.{Refusal}
-use Rattle.rules.specs.declared.Refusal.TheVariants.{ShortBuffer, UnknownCode, BadRecord}
+use Rattle.rules.specs.declared.Refusal.TheVariants.{UnknownCode, BadRecord}
 use Rattle.rules.specs.Lists.{Bytes, every, total, itself, all, rising}
 use Rattle.rules.specs.Start.{Reliable, started, unstarted, start, new, good_messages, good_record, good_policy, good_reject}
 use Rattle.rules.proofs.Lists.{and_left, and_right, Every, every_true}
@@ -24,24 +24,6 @@ use Rattle.starts.proofs.Messages.{Long, long_record, slice_tests, good_slices}
 last_test : (t : Bool) → (t && true) ≡ t
 last_test true = refl
 last_test false = refl
-
--- ---- refusal 1 of a record
-
-pub fewer_lengths : (ns ks : List ℕ) (b : Bytes) → length ks < length ns → short_record ns ks b ≡ true
-fewer_lengths ns ks b h = rw (lt-ltb (length ks) (length ns) h)
-
-pub by_bytes : (ns ks : List ℕ) (b : Bytes) {t : Bool} → length ns ≤ length ks → t ≡ leb (total itself (take (length ns) ks)) (length b)
-    → not t ≡ short_record ns ks b
-by_bytes ns ks b {t} h e =
-    ap not e ∙ not_leb (total itself (take (length ns) ks)) (length b)
-    ∙ sym (ap (λ (s : Bool). s || ltb (length b) (total itself (take (length ns) ks))) (le-ltb (length ks) (length ns) h))
-  where
-    by_test : (t : Bool) (m n : ℕ) → leb m n ≡ t → not t ≡ ltb n m
-    by_test true m n e = sym (le-ltb n m (leb-true m n e))
-    by_test false m n e = sym (lt-ltb n m (leb-false m n e))
-
-    not_leb : (m n : ℕ) → not (leb m n) ≡ ltb n m
-    not_leb m n = by_test (leb m n) m n refl
 
 -- ---- the messages
 
@@ -100,30 +82,9 @@ module _ (x : Code.Reliable) (ns ks : List ℕ) where
           rw (le-leb 1 x.message_number one, le-leb x.message_number 4294967296 low, le-leb x.remote_number 18446744073709551614 h)
           (g b l ∙ sym (last_test (good_messages x.message_number (messages_of ns ks b))))
 
--- ---- policy and reject body
-
-module _ (p : Policy) where
-  pub many-queued : 256 < p.messages → good_policy p ≡ false
-  many-queued h = rw (lt-leb p.messages 256 h)
-
-  pub bytes-queued : p.messages ≤ 256 → 32768 < p.bytes → good_policy p ≡ false
-  bytes-queued m h = rw (le-leb p.messages 256 m, lt-leb p.bytes 32768 h)
-
-  pub by_body : p.messages ≤ 256 → p.bytes ≤ 32768 → good_policy p ≡ leb p.body 16384
-  by_body m h = rw (le-leb p.messages 256 m, le-leb p.bytes 32768 h) (last_test (leb p.body 16384))
-
-pub no_reject : (b : Bytes) → length b < 1 → good_reject b ≡ false
-no_reject b h = rw (lt-leb 1 (length b) h)
-
-pub by_reject : (b : Bytes) → 1 ≤ length b → good_reject b ≡ leb (length b) 64
-by_reject b h = rw (le-leb 1 (length b) h) (last_test (leb (length b) 64))
-
 -- ---- the verdict, test by test
 
 module _ (r : Reliable) (p : Policy) (j : Bytes) where
-  pub found-short : {s : Bool} → s ≡ true → Err ShortBuffer ≡ verdict_of s (start r p j)
-  found-short e = rw e
-
   module _ {s : Bool} (long : s ≡ false) where
     pub found-code : 4 < r.disposition → Err UnknownCode ≡ verdict_of s (start r p j)
     unfolding start

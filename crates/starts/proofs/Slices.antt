@@ -1,21 +1,20 @@
 -- What the loops over the record's slices keep: lengths counted down, numbers that rise, records filled. Assumes nothing.
-use mathlib.Core.Path.{◌≡◌, refl, sym, ap, ◌∙◌}
+use mathlib.Core.Path.{◌≡◌, refl, ap, ◌∙◌}
 use mathlib.Core.Bool.{Bool, true, false, ◌&&◌}
 use mathlib.Core.List.{List, [], ◌∷◌}
 use Prim.Native.Nat.{ℕ, zero, suc, ◌+◌, ◌-◌, ◌≤◌, ◌<◌}
 use native.Mathlib.Omega.{arith}
 use lib.ListN.{length, take, get_or, set, replicate, length-replicate}
-use lib.Seq.{slice, take-length}
+use lib.Seq.{slice}
 use lib.Dec.{leb}
 use borrow.Author.Tests.{le-leb, lt-leb, lt-ltb, le-ltb}
 use Rattle.rules.specs.Lists.{total, itself, all, rising}
 use Rattle.stores.proofs.Packs.{total-step, total-none, total_split}
-use Rattle.stores.proofs.Laws.{take-placed-end}
 use Rattle.stores.proofs.Scans.{rises-on, rises_not, rises-none, all-on, all_not, all_none}
-use Rattle.stores.proofs.Runs.{Run, run_none, run_more, run-all}
+use Rattle.stores.proofs.Runs.{Run, run_none, run_more}
 use Rattle.outbox.specs.declared.Unacked.{Unacked}
 use Rattle.outbox.specs.View.{blank_u}
-use Rattle.starts.specs.Records.{under, records_of, Fitting, Recorded}
+use Rattle.starts.specs.Records.{under, records_of, Fitting}
 
 -- ---- lengths counted down from a limit
 
@@ -51,10 +50,6 @@ pub record Risen (next : ℕ) (ns : List ℕ) (last i : ℕ) : Type 0 where
   pub within : i ≤ length ns
   pub order : rising itself 0 ns ≡ rising itself last (slice i (length ns) ns)
   pub below : all (under next) ns ≡ all (under next) (slice i (length ns) ns)
-
-pub risen_none : (next : ℕ) (ns : List ℕ) → Risen next ns 0 0
-risen_none next ns =
-    record { within = omega arith; order = ap (rising itself 0) (sym (take-length ns)); below = ap (all (under next)) (sym (take-length ns)) }
 
 and_out : (a b : Bool) → b ≡ false → (a && b) ≡ false
 and_out true b e = e
@@ -128,18 +123,3 @@ module _ {ns ks : List ℕ} {rs : List Unacked} {i : ℕ} (f : Filling ns ks rs 
       let r : Run (replicate 256 blank_u) 0 (records_of ns ks) (length ns) (set rs (0 + i) v) (i + 1) =
       run_more f.run blank_u v h (record_at ns ks i f.fitting.enough h) in
       record { fitting = f.fitting; run = rw z at r }
-
-  pub filling_all : (next : ℕ) → length ns ≤ i → Recorded next ns ks (record { next = next; records = rs; count = length ns })
-  filling_all next h =
-      let full : length (replicate 256 blank_u) ≡ 256 = length-replicate 256 blank_u in
-      let size : length (records_of ns ks) ≡ length ns = f.run.size in
-      let room : 0 + length (records_of ns ks) ≤ length (replicate 256 blank_u) = omega (arith, f.fitting.few) in
-      let e : length ns ≡ 0 + length (records_of ns ks) = omega arith in
-      record {
-        next_is = refl;
-        count_is = refl;
-        used =
-            ap (λ (k : ℕ). take k rs) e ∙ ap (λ (l : List Unacked). take (0 + length (records_of ns ks)) l) (run-all f.run h)
-            ∙ take-placed-end (replicate 256 blank_u) 0 (records_of ns ks) room;
-        full = f.run.same ∙ full;
-      }

@@ -4,7 +4,7 @@ use mathlib.Core.List.{List, [], ◌∷◌, ◌++◌, map, append_assoc}
 use Prim.Native.Nat.{ℕ, zero, suc, ◌+◌, ◌-◌, ◌≤◌, ◌<◌, max}
 use native.Mathlib.Omega.{arith}
 use native.Mathlib.Nat.{add-zero, sub-zero, zero-sub, suc-sub-suc}
-use lib.ListN.{length, take, drop, get_or, set, length-append, length-take, length-drop, take-append-drop, drop_of_length-le, length-map, replicate, length-replicate, replicate-append-replicate}
+use lib.ListN.{length, take, drop, get_or, set, length-append, length-take, length-drop, take-append-drop, drop_of_length-le, replicate, length-replicate, replicate-append-replicate}
 use native.Mathlib.Numerals.{add-one}
 use lib.Seq.{set_split, take-nil, drop-nil, take-suc-set, take-set-lt, drop-set-lt, slice, slice-cons, take_at, drop_at, take-append-le, drop-append-le, take-take, drop-drop, take-add, length-take-le}
 use Rattle.rules.specs.Lists.{total, packed}
@@ -76,10 +76,6 @@ module _ {A : Type 0} (l : List A) (i n : ℕ) where
   slice-none h =
       let k : length (take n l) ≤ i = simp length-take (omega arith) in
       drop_of_length-le (take n l) k
-
--- the length of an array that is a field of a struct, as what is known of the struct has it
-pub unmapped : {A B : Type 0} (f : A → B) (l : List A) {n : ℕ} → length (map f l) ≡ n → length l ≡ n
-unmapped f l e = sym (length-map l f) ∙ e
 
 module _ {A : Type 0} (size : A → ℕ) (l : List A) (i n : ℕ) where
   pub total-step : (d : A) → i < n → n ≤ length l → total size (slice i n l) ≡ size (get_or l i d) + total size (slice (i + 1) n l)

@@ -1,15 +1,13 @@
 -- A loop over the elements from index i up to, not including, index n: what is asked of them, by the test of the first. Assumes nothing.
-use Rattle.std.specs.Prelude.{if◌then◌else◌}
 use mathlib.Core.Path.{◌≡◌, ap, ◌∙◌}
 use mathlib.Core.Bool.{Bool, true, false, ◌||◌, ◌&&◌}
 use mathlib.Core.List.{List}
-use Prim.Native.Nat.{ℕ, suc, ◌+◌, ◌≤◌, ◌<◌}
+use Prim.Native.Nat.{ℕ, ◌+◌, ◌≤◌, ◌<◌}
 use lib.ListN.{length, get_or}
 use lib.Seq.{slice}
 use borrow.Author.Tests.{lt-ltb, le-ltb}
 use Rattle.rules.specs.Lists.{any, all, rising}
 use Rattle.stores.specs.Admitted.{admitted}
-use Rattle.stores.specs.Fronts.{front}
 use Rattle.stores.proofs.Packs.{slice-step, slice-none}
 
 -- ---- by a test
@@ -31,14 +29,6 @@ module _ {A : Type 0} (p : A → Bool) (l : List A) (i n : ℕ) (d : A) (h : i <
   unfolding all
   all-on e = ap (all p) (slice-step l i n d h m) ∙ ap (λ (b : Bool). b && all p (slice (i + 1) n l)) e
 
-  pub front_not : p (get_or l i d) ≡ false → front p (slice i n l) ≡ 0
-  unfolding front
-  front_not e = ap (front p) (slice-step l i n d h m) ∙ ap (λ (b : Bool). if b then suc (front p (slice (i + 1) n l)) else 0) e
-
-  pub front-on : p (get_or l i d) ≡ true → front p (slice i n l) ≡ suc (front p (slice (i + 1) n l))
-  unfolding front
-  front-on e = ap (front p) (slice-step l i n d h m) ∙ ap (λ (b : Bool). if b then suc (front p (slice (i + 1) n l)) else 0) e
-
 module _ {A : Type 0} (p : A → Bool) (l : List A) (i n : ℕ) (h : n ≤ i) where
   pub any_none : any p (slice i n l) ≡ false
   unfolding any
@@ -47,10 +37,6 @@ module _ {A : Type 0} (p : A → Bool) (l : List A) (i n : ℕ) (h : n ≤ i) wh
   pub all_none : all p (slice i n l) ≡ true
   unfolding all
   all_none = ap (all p) (slice-none l i n h)
-
-  pub front-none : front p (slice i n l) ≡ 0
-  unfolding front
-  front-none = ap (front p) (slice-none l i n h)
 
 -- ---- by the number before
 

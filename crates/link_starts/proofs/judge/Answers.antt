@@ -1,4 +1,4 @@
-use Rattle.link_starts.proofs.Starts.{short-outbound, short-queue, not_good, is-good}
+use Rattle.link_starts.proofs.Starts.{short-outbound, short-queue, judged}
 use Rattle.link_starts.proofs.judge.Goals as goal
 
 pub returns-then-outbound-lt-OUTBOUND_BYTES : goal.returns-then-outbound-lt-OUTBOUND_BYTES
@@ -7,8 +7,5 @@ returns-then-outbound-lt-OUTBOUND_BYTES c = short-outbound c.args.«record» c.a
 pub returns-then-queue-lt-QUEUE_BYTES : goal.returns-then-queue-lt-QUEUE_BYTES
 returns-then-queue-lt-QUEUE_BYTES c = short-queue c.args.«record» c.args.numbers.now c.args.lengths.now c.args.bodies.now c.args.policy c.args.reject.now c.if-outbound-lt-OUTBOUND_BYTES.false c.if-queue-lt-QUEUE_BYTES.true
 
-pub returns-in-Err : goal.returns-in-Err
-returns-in-Err c = not_good c.args.«record» c.args.numbers.now c.args.lengths.now c.args.bodies.now c.args.policy c.args.reject.now c.if-outbound-lt-OUTBOUND_BYTES.false c.if-queue-lt-QUEUE_BYTES.false c.judge.ensures _ c.in-Err.is
-
-pub returns-in-Ok : goal.returns-in-Ok
-returns-in-Ok c = is-good c.args.«record» c.args.numbers.now c.args.lengths.now c.args.bodies.now c.args.policy c.args.reject.now c.if-outbound-lt-OUTBOUND_BYTES.false c.if-queue-lt-QUEUE_BYTES.false c.judge.ensures c.in-Ok.is
+pub returns : goal.returns
+returns c = judged c.args.«record» c.args.numbers.now c.args.lengths.now c.args.bodies.now c.args.policy c.args.reject.now c.if-outbound-lt-OUTBOUND_BYTES.false c.if-queue-lt-QUEUE_BYTES.false c.judge.ensures

@@ -1,9 +1,5 @@
-use Rattle.outbox.proofs.Flags.{flagging_none, flagging_more, flagging_all, sent-flags}
-use native.Mathlib.Omega.{arith}
+use Rattle.outbox.proofs.Flags.{flagging_more, flagging_all, sent-flags}
 use Rattle.outbox.proofs.mark_sent.Goals as goal
-
-pub loop-i-init : goal.loop-i-init
-loop-i-init c = flagging_none _ _ (omega arith) c.requires
 
 pub loop-i-preserved : goal.loop-i-preserved
 loop-i-preserved c = flagging_more (sent-flags c.args.number) c.loop-i.invariant c.loop-i-test.true c.sent_one.result c.sent_one.ensures

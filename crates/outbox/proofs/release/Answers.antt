@@ -1,14 +1,12 @@
 use native.Mathlib.Omega.{arith}
 use mathlib.Core.Path.{◌≡◌, refl, ap, ◌∙◌}
-use Prim.Native.Nat.{◌+◌, ◌≤◌}
 use lib.ListN.{length, get_or}
 use Rattle.rules.specs.Commits as R
-use Rattle.outbox.specs.declared.Unacked.{Unacked}
 use Rattle.outbox.specs.View.{blank_u}
 use Rattle.outbox.specs.Records.{releases_u, released_u}
 use Rattle.outbox.proofs.View.{SoundU, sound_facts}
 use Rattle.outbox.proofs.Flags.{flagging_none, flagging_at, flagging_more, release-flags}
-use Rattle.outbox.proofs.Listings.{listing_none, listing-next, listing-room, listing-fits}
+use Rattle.outbox.proofs.Listings.{listing_none, listing-next}
 use Rattle.outbox.proofs.Commits.{released}
 use Rattle.outbox.proofs.release.Goals as goal
 
@@ -17,12 +15,6 @@ loop-i-init c =
     let s : SoundU c.args.o = sound_facts c.args.o c.requires.0 in
     let full : length c.args.o.records ≡ 256 = omega arith in
     (flagging_none (release-flags c.args.upto) c.args.o full s.few, listing_none (R.releases c.args.upto) c.args.o c.args.list.now c.args.n s full c.requires.1)
-
-pub send_if-events-requires : goal.send_if-events-requires
-send_if-events-requires c = listing-room c.loop-i.invariant.1 c.loop-i-test.true
-
-pub overflow_add-at : goal.overflow_add-at
-overflow_add-at c = let fits : let l = c.loop-i in l.at + (get_or l.outbox.records l.i blank_u).len ≤ 65536 = let l = c.loop-i in let e : get_or l.outbox.records l.i blank_u ≡ get_or c.args.o.records l.i blank_u = flagging_at (release-flags c.args.upto) l.invariant.0 c.loop-i-test.true in omega (arith, ap (λ (u : Unacked). u.len) e, listing-fits l.invariant.1 c.loop-i-test.true) in omega (arith, fits)
 
 pub loop-i-preserved : goal.loop-i-preserved
 loop-i-preserved c =
@@ -33,9 +25,6 @@ loop-i-preserved c =
       listing-next c.loop-i.invariant.1 lt (releases_u c.args.upto) (λ v b. refl) u (flagging_at (release-flags c.args.upto) f lt) c.releases-goes.result
           c.releases-goes.ensures c.send_if-events.new.list c.send_if-events.result c.send_if-events.auto.list c.send_if-events.ensures,
     )
-
-pub shape_of-list : goal.shape_of-list
-shape_of-list c = c.loop-i.invariant.1.same
 
 pub returns : goal.returns
 returns c =

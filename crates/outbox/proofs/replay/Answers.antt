@@ -7,7 +7,7 @@ use Rattle.rules.specs.Replay.{not_pending}
 use Rattle.outbox.specs.View.{blank_u}
 use Rattle.outbox.specs.Records.{not_pending_u}
 use Rattle.outbox.proofs.View.{sound_facts}
-use Rattle.outbox.proofs.Listings.{listing_none, listing-next, listing-room, listing-fits}
+use Rattle.outbox.proofs.Listings.{listing_none, listing-next}
 use Rattle.outbox.proofs.Commits.{replayed}
 use Rattle.outbox.proofs.replay.Goals as goal
 
@@ -17,14 +17,6 @@ loop-u-init c = listing_none not_pending c.args.o c.args.list.now c.args.n (soun
 pub shared_ref_as_front-u-items : goal.shared_ref_as_front-u-items
 shared_ref_as_front-u-items c = (sound_facts c.args.o c.requires.0).few
 
-pub send_if-events-requires : goal.send_if-events-requires
-send_if-events-requires c = listing-room c.loop-u.invariant (omega (arith, simp length-take at c.loop-u-test.true))
-
-pub overflow_add-at : goal.overflow_add-at
-overflow_add-at c =
-    let h : c.loop-u.u-index < c.args.o.count = omega (arith, simp length-take at c.loop-u-test.true) in
-    rw (get_or-take c.args.o.count c.args.o.records c.loop-u.u-index blank_u h) (omega (arith, listing-fits c.loop-u.invariant h))
-
 pub loop-u-preserved : goal.loop-u-preserved
 loop-u-preserved c =
     let h : c.loop-u.u-index < c.args.o.count = omega (arith, simp length-take at c.loop-u-test.true) in
@@ -33,9 +25,6 @@ loop-u-preserved c =
     rw (get_or-take c.args.o.count c.args.o.records c.loop-u.u-index blank_u h)
     (listing-next c.loop-u.invariant h not_pending_u (λ v b. refl) u refl (not_pending_u u) refl c.send_if-events.new.list c.send_if-events.result
     c.send_if-events.auto.list e)
-
-pub shape_of-list : goal.shape_of-list
-shape_of-list c = c.loop-u.invariant.same
 
 pub returns : goal.returns
 returns c = replayed c.loop-u.invariant (omega (arith, simp length-take at c.loop-u-test.false))

@@ -1,18 +1,13 @@
 use Prim.Native.Nat.{◌-◌, ◌≤◌}
 use native.Mathlib.Omega.{arith}
 use mathlib.Core.Bool.{true}
-use mathlib.Core.Path.{◌≡◌, ap, sym, ◌∙◌}
+use mathlib.Core.Path.{◌≡◌, sym, ◌∙◌}
 use lib.ListN.{get_or}
-use lib.Seq.{take-length}
-use Rattle.stores.specs.Admitted.{admitted}
 use Rattle.stores.proofs.Scans.{admitted-on, admitted_not, admitted-none}
 use Rattle.outbox.specs.View.{num_u, len_u, used_u, blank_u}
 use Rattle.outbox.specs.Sound.{admits_unacked, sound_unacked}
 use Rattle.outbox.proofs.Sounds.{admits_facts}
 use Rattle.outbox.proofs.sound_unacked.Goals as goal
-
-pub loop-u-init : goal.loop-u-init
-loop-u-init c = (omega arith, ap (admitted num_u len_u (admits_unacked c.args.o.next) 0 0) (take-length _))
 
 pub returns-then-not-admits_unacked : goal.returns-then-not-admits_unacked
 unfolding sound_unacked

@@ -1,18 +1,13 @@
 use Prim.Native.Nat.{◌-◌, ◌≤◌}
 use native.Mathlib.Omega.{arith}
 use mathlib.Core.Bool.{true}
-use mathlib.Core.Path.{◌≡◌, ap, sym, ◌∙◌}
+use mathlib.Core.Path.{◌≡◌, sym, ◌∙◌}
 use lib.ListN.{get_or}
-use lib.Seq.{take-length}
 use Rattle.queue.specs.View.{num_q, len_q, used_q, blank_q}
 use Rattle.queue.specs.Sound.{admits_queued, sound_queued}
-use Rattle.stores.specs.Admitted.{admitted}
 use Rattle.stores.proofs.Scans.{admitted-on, admitted_not, admitted-none}
 use Rattle.queue.proofs.Sound.{admits-fits}
 use Rattle.queue.proofs.sound_queued.Goals as goal
-
-pub loop-u-init : goal.loop-u-init
-loop-u-init c = (omega arith, ap (admitted num_q len_q (admits_queued c.args.p) c.args.remote 0) (take-length _))
 
 pub returns-then-not-admits_queued : goal.returns-then-not-admits_queued
 unfolding sound_queued

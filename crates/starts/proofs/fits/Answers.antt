@@ -1,4 +1,3 @@
-use native.Mathlib.Omega.{arith}
 use mathlib.Core.List.{List}
 use mathlib.Core.Path.{sym, ap, ◌∙◌}
 use Prim.Native.Nat.{ℕ}
@@ -6,11 +5,8 @@ use lib.Dec.{leb}
 use lib.ListN.{take}
 use lib.Seq.{take-length}
 use Rattle.rules.specs.Lists.{total, itself}
-use Rattle.starts.proofs.Slices.{counted_none, counted_more, counted_out, counted_all}
+use Rattle.starts.proofs.Slices.{counted_more, counted_out, counted_all}
 use Rattle.starts.proofs.fits.Goals as goal
-
-pub loop-k-init : goal.loop-k-init
-loop-k-init c = counted_none _ _ _ (omega arith)
 
 pub returns-then-left-k : goal.returns-then-left-k
 returns-then-left-k c =

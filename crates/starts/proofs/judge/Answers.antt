@@ -3,18 +3,11 @@ use Rattle.starts.specs.Started.{short_record}
 use mathlib.Core.Path.{◌≡◌, sym, ◌∙◌}
 use mathlib.Core.Bool.{Bool, true, false}
 use Rattle.starts.specs.Records.{reliable_of}
-use Rattle.starts.proofs.Messages.{long_record}
-use Rattle.starts.proofs.Checks.{found-short, found-code, found_record, found-policy, by_reject_body}
+use Rattle.starts.proofs.Checks.{found-code, found_record, found-policy, by_reject_body}
 use Rattle.starts.proofs.judge.Goals as goal
-
-pub returns-then-short_record : goal.returns-then-short_record
-returns-then-short_record c = found-short _ _ _ (sym c.short_record.ensures ∙ c.if-short_record.true)
 
 pub returns-then-record-gt4 : goal.returns-then-record-gt4
 returns-then-record-gt4 c = let short-of : Bool = short_record c.args.numbers.now c.args.lengths.now c.args.bodies.now in let long : short-of ≡ false = sym c.short_record.ensures ∙ c.if-short_record.false in found-code _ _ _ (long) c.if-record-gt4.true
-
-pub good_record-requires : goal.good_record-requires
-good_record-requires c = let short-of : Bool = short_record c.args.numbers.now c.args.lengths.now c.args.bodies.now in let long : short-of ≡ false = sym c.short_record.ensures ∙ c.if-short_record.false in (long_record c.args.numbers.now c.args.lengths.now c.args.bodies.now (long)).enough
 
 pub returns-then-not-good_record : goal.returns-then-not-good_record
 returns-then-not-good_record c = let short-of : Bool = short_record c.args.numbers.now c.args.lengths.now c.args.bodies.now in let long : short-of ≡ false = sym c.short_record.ensures ∙ c.if-short_record.false in let record_of : Reliable = reliable_of c.args.«record» c.args.numbers.now c.args.lengths.now c.args.bodies.now in let told : c.good_record.result ≡ good_record (record_of) = c.good_record.ensures c.args.bodies.now (long) in found_record _ _ _ (long) c.if-record-gt4.false (sym (told) ∙ c.if-not-good_record.true)

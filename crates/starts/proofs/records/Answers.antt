@@ -1,5 +1,5 @@
 use native.Mathlib.Omega.{arith}
-use Rattle.starts.proofs.Slices.{filling_none, filling_more, filling_all, length-small}
+use Rattle.starts.proofs.Slices.{filling_none, filling_more, length-small}
 use Rattle.starts.proofs.records.Goals as goal
 
 pub loop-i-init : goal.loop-i-init
@@ -10,6 +10,3 @@ overflow_cast-records-in-loop-i c = omega (arith, length-small _ _ c.loop-i.i c.
 
 pub loop-i-preserved : goal.loop-i-preserved
 loop-i-preserved c = filling_more c.loop-i.invariant c.loop-i-test.true
-
-pub returns : goal.returns
-returns c = filling_all c.loop-i.invariant c.args.next c.loop-i-test.false

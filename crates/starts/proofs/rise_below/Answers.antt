@@ -1,10 +1,7 @@
 use mathlib.Core.Path.{sym}
-use Rattle.starts.proofs.Slices.{risen_none, risen_more, risen_not, risen_over, risen_all}
+use Rattle.starts.proofs.Slices.{risen_more, risen_not, risen_over, risen_all}
 use Rattle.starts.proofs.rise_below.Goals as goal
 use Rattle.starts.proofs.rise_below.Goals.{then-n-last-via-then-n-last, then-n-last-via-else-n-last+then-next-n}
-
-pub loop-n-init : goal.loop-n-init
-loop-n-init c = risen_none _ _
 
 pub returns-then-n-last : goal.returns-then-n-last
 returns-then-n-last c =
