@@ -142,7 +142,6 @@ fn mark_failed(bytes: &mut Bytes)
 {
     if bytes[parts::MODE] == 2 {
         bytes[parts::FAILED] = 1;
-        return;
     }
 }
 
