@@ -4,6 +4,7 @@
 ghost use Rattle.std.specs.Prelude.{◌≡◌, Bool, true, false, ◌&&◌, ◌||◌, List, ℕ, ◌+◌, ◌*◌, ◌≤◌, ◌<◌, length, leb, eqb};
 ghost use Rattle.rules.specs.Acks.{report_data, report_ack};
 ghost use Rattle.rules.specs.Codes.{event_number};
+ghost use Rattle.rules.specs.Codes.{event_number};
 ghost use Rattle.rules.specs.Calls.{gets_ack, gets_keepalive, reports};
 ghost use Rattle.rules.specs.State.{is_raw};
 ghost use Rattle.events.specs.Written.{Listed};

@@ -6,9 +6,9 @@ ghost use Rattle.rules.specs.Receiving.{mode_of};
 ghost use Rattle.rules.specs.Calls.{is_ready};
 ghost use Rattle.session.specs.Promise.{lent, Called};
 ghost use Rattle.draining.specs.Arrived.{Arrived};
-ghost use Rattle.consumers.specs.Modes.{with_mode};
 
-use peer_session::{SessionState, Stage};
+use delivery::Step;
+use peer_session::SessionState;
 use rules::{Answer, HostStatus, ReceiveMode, Refusal};
 use session::Returned;
 
@@ -30,22 +30,6 @@ fn mode_of(n: u64) -> ReceiveMode
     ReceiveMode::Retiring
 }
 
-fn take_mode(s: SessionState, mode: ReceiveMode) -> SessionState
-    ensures { result ≡ with_mode mode s }
-{
-    let g = s.stage;
-    let setup = g.setup;
-    let stage = Stage {
-        disposition: g.disposition,
-        setup: setup,
-        mode: mode,
-        failed: g.failed,
-    };
-    let mut r = s;
-    r.stage = stage;
-    r
-}
-
 // The queue of a sound session begins above remote: nothing in it is obsolete. A refusal that ends the drain is not returned.
 fn ready(
     s: SessionState,
@@ -59,14 +43,16 @@ fn ready(
     requires { (Arrived s list.old delivery.old outbound.old queue.old) × (mode ≤ 4) }
     ensures { Called (is_ready status mode) s (lent list.old delivery.old outbound.old queue.old) result (lent list.new delivery.new outbound.new queue.new) }
 {
-    let m = mode_of(mode);
-    let r = take_mode(s, m);
-    let t = draining::turn_of(r);
-    let w = s.waiting;
-    let e = draining::carry(r, t, w, 0, status, list, 0, delivery, 0, outbound, queue);
-    let left = e.session;
+    let mut r = s;
+    r.stage.mode = mode_of(mode);
+    let step = Step {
+        turn: draining::turn_of(r),
+        events: 0,
+        at: 0,
+    };
+    let e = draining::carry(r, step, s.waiting, 0, status, list, delivery, outbound, queue);
     Returned {
-        session: left,
+        session: e.session,
         answer: Answer::Done,
         events: e.events,
     }

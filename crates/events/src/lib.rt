@@ -4,6 +4,7 @@
 ghost use Rattle.std.specs.Prelude.{◌≡◌, ◌∷◌, [], ◌+◌, ◌*◌, ◌≤◌, length};
 ghost use Rattle.stores.specs.Placed.{placed};
 ghost use Rattle.rules.specs.Codes.{event_number};
+ghost use Rattle.rules.specs.Codes.{event_number};
 ghost use Rattle.events.specs.Written.{asked, Listed};
 
 use rules::{Clock, EventCode};

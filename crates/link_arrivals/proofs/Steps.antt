@@ -13,7 +13,7 @@ use Rattle.rules.specs.declared.Refusal.{Refusal}
 use Rattle.rules.specs.declared.Refusal.TheVariants.{QueueCount, QueueBytes}
 use Rattle.rules.specs.Lists.{Bytes, any, put, itself}
 use Rattle.rules.specs.State.{Frame, frame_number, is_frame}
-use Rattle.std.specs.Prelude.{None, Some}
+use Rattle.std.specs.Prelude.{None, Some, Ok, Err}
 use Rattle.parts.specs.Codes.{good_codes}
 use Rattle.events.specs.Written.{Listed, asked, books}
 use Rattle.numbers.specs.declared.Numbers.{Numbers}
@@ -129,37 +129,35 @@ module _ {status : HostStatus} {u : Turn} {f : Frame} (w h b : List ℕ) (t : Fl
   unfolding opened_of
   few_now = pre.taking.receiving.exact.queued.few
 
-  module _ {a : Step} {l₁ : List ℕ} {d₁ : Bytes} (g : Delivered f u (books l 0 d 0) a l₁ d₁) where
-    pub abandoning : (x : Refusal) → a.stop ≡ Some x → length l₁ ≡ length l
-        → Abandoning a.turn (waiting_in w) S₁ a.events (length l₁) (length o) (length q) × (good_codes (codes_in h b) ≡ true)
+  module _ {x : Refusal} {l₁ : List ℕ} {d₁ : Bytes} (g : Delivered f u (books l 0 d 0) (Err x) l₁ d₁) where
+    pub abandoning : length l₁ ≡ length l → Abandoning u (waiting_in w) S₁ 0 (length l₁) (length o) (length q) × (good_codes (codes_in h b) ≡ true)
     unfolding opened_of
-    abandoning x z e = (now_abandoning pre.taking g x z e, good_now)
+    abandoning e = (now_abandoning pre.taking g e, good_now)
 
-    pub refused : (x : Refusal) → a.stop ≡ Some x → {r : Ended} {l' : List ℕ} {o' q' : Bytes} → Abandons x a.turn (waiting_in w) S₁ l₁ a.events o q r l' o' q'
-        → Anew status f S₁ l d o q r l' d₁ o' q'
+    pub refused : {r : Ended} {l' : List ℕ} {o' q' : Bytes} → Abandons x u (waiting_in w) S₁ l₁ 0 o q r l' o' q' → Anew status f S₁ l d o q r l' d₁ o' q'
     unfolding opened_of
-    refused x z c = now_refused pre.taking g x z c
+    refused c = now_refused pre.taking g c
 
-    module _ (z : a.stop ≡ None) where
-      pub may_put : Rising 272 5 w × (length (put itself f.number (in_use (waiting_in w))) ≤ 512)
+  module _ {a : Step} {l₁ : List ℕ} {d₁ : Bytes} (g : Delivered f u (books l 0 d 0) (Ok a) l₁ d₁) where
+    pub may_put : Rising 272 5 w × (length (put itself f.number (in_use (waiting_in w))) ≤ 512)
+    unfolding opened_of
+    may_put = ((usable w h b t pre.checked).waiting, (put-fits pre.taking g).1)
+
+    pub may_request : length l₁ ≡ length l → 4 * a.events + 4 ≤ length l₁
+    may_request e = request-room pre.taking g e
+
+    module _ (lw : 1296 ≤ length w) (lb : 4936 ≤ length b) {w₁ : List ℕ} (p : Becomes (put itself f.number (in_use (waiting_in w))) 272 5 w w₁)
+        {k : ℕ} (ld : (h' b' : List ℕ) → Leads f.number (queue_in w h' b') k) {l₂ : List ℕ} {n : ℕ} (li : Listed (asked a.turn.clock) l₁ a.events l₂ n) where
+      pub carrying : length l₂ ≡ length l → length d₁ ≡ length d
+          → Carrying a.turn (waiting_in w₁) k (opened_of (parts w₁ h b t)) l₂ n d₁ a.at o q × (good_codes (codes_in h b) ≡ true)
       unfolding opened_of
-      may_put = ((usable w h b t pre.checked).waiting, (put-fits pre.taking g z).1)
+      carrying e₁ e₂ =
+          (carrying_rewaited (rewaited w h b t lw lb p.only) (now_carrying pre.taking g p.holds (ld h b) li e₁ e₂), good_now)
 
-      pub may_request : length l₁ ≡ length l → 4 * a.events + 4 ≤ length l₁
-      may_request e = request-room pre.taking g z e
-
-      module _ (lw : 1296 ≤ length w) (lb : 4936 ≤ length b) {w₁ : List ℕ} (p : Becomes (put itself f.number (in_use (waiting_in w))) 272 5 w w₁)
-          {k : ℕ} (ld : (h' b' : List ℕ) → Leads f.number (queue_in w h' b') k) {l₂ : List ℕ} {n : ℕ} (li : Listed (asked a.turn.clock) l₁ a.events l₂ n) where
-        pub carrying : length l₂ ≡ length l → length d₁ ≡ length d
-            → Carrying a.turn (waiting_in w₁) k (opened_of (parts w₁ h b t)) l₂ n d₁ a.at o q × (good_codes (codes_in h b) ≡ true)
-        unfolding opened_of
-        carrying e₁ e₂ =
-            (carrying_rewaited (rewaited w h b t lw lb p.only) (now_carrying pre.taking g z p.holds (ld h b) li e₁ e₂), good_now)
-
-        pub taken : {r : Ended} {l' : List ℕ} {d' o' q' : Bytes} → Carries status a.turn (waiting_in w₁) k (opened_of (parts w₁ h b t)) l₂ n d₁ a.at o q r l' d' o' q'
-            → Anew status f S₁ l d o q r l' d' o' q'
-        unfolding opened_of
-        taken c = now_taken pre.taking g z p.holds (ld h b) li (carries_rewaited (rewaited w h b t lw lb p.only) c)
+      pub taken : {r : Ended} {l' : List ℕ} {d' o' q' : Bytes} → Carries status a.turn (waiting_in w₁) k (opened_of (parts w₁ h b t)) l₂ n d₁ a.at o q r l' d' o' q'
+          → Anew status f S₁ l d o q r l' d' o' q'
+      unfolding opened_of
+      taken c = now_taken pre.taking g p.holds (ld h b) li (carries_rewaited (rewaited w h b t lw lb p.only) c)
 
 -- ---- data that waits in the queue
 

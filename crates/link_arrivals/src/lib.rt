@@ -2,14 +2,14 @@
 #![tactic(auto)]
 
 ghost use Rattle.std.specs.Prelude.{true, false, length};
-ghost use Rattle.delivery.specs.Turns.{frame_of};
+ghost use Rattle.delivery.specs.Turns.{lent_frame};
 ghost use Rattle.receiving.specs.Checks.{Acknowledges, Acknowledging, Anew};
 ghost use Rattle.parts.specs.Parts.{parts, opened_of};
 ghost use Rattle.link_numbers.specs.Sets.{Rising};
 ghost use Rattle.link_draining.specs.Endings.{ended_of};
 ghost use Rattle.link_arrivals.specs.Steps.{Receiving, Taking};
 
-use delivery::Turn;
+use delivery::{Frame, Step, Turn};
 use link_draining::Ending;
 use parts::{Bytes, Halves, Words};
 use rules::{EventCode, HostStatus, Refusal};
@@ -55,28 +55,29 @@ fn take_now(
     delivery: &mut [u8],
     outbound: &mut [u8],
     queue: &mut [u8],
-    number: u64,
-    kind: u8,
-    body: &[u8],
+    f: Frame,
 ) -> Ending
-    requires { Taking true status t (frame_of number kind body.now) words.old halves.old bytes.old clock.old list.old delivery.old outbound.old queue.old }
-    ensures { Anew status (frame_of number kind body.now) (opened_of (parts words.old halves.old bytes.old clock.old)) list.old delivery.old outbound.old queue.old (ended_of (opened_of (parts words.new halves.new bytes.new clock.new)) result) list.new delivery.new outbound.new queue.new }
+    requires { Taking true status t (lent_frame f) words.old halves.old bytes.old clock.old list.old delivery.old outbound.old queue.old }
+    ensures { Anew status (lent_frame f.entry) (opened_of (parts words.old halves.old bytes.old clock.old)) list.old delivery.old outbound.old queue.old (ended_of (opened_of (parts words.new halves.new bytes.new clock.new)) result) list.new delivery.new outbound.new queue.new }
 {
-    let a = delivery::deliver(t, list, 0, delivery, 0, number, kind, body);
-    let turn = a.turn;
-    let stop = a.stop;
-    match stop {
-        Some(x) => link_draining::abandon(
-            words, halves, bytes, clock, list, a.events, outbound, queue, turn, x,
+    let begun = Step {
+        turn: t,
+        events: 0,
+        at: 0,
+    };
+    match delivery::deliver(begun, list, delivery, f) {
+        Err(x) => link_draining::abandon(
+            words, halves, bytes, clock, list, 0, outbound, queue, t, x,
         ),
-        None => {
-            let from = link_queue::up_to(words, number);
-            link_numbers::put(words, parts::WAITING_NUMBERS, parts::WAITING, number);
-            let c = turn.clock;
-            let n = events::request(c, list, a.events);
+        Ok(done) => {
+            let from = link_queue::up_to(words, f.number);
+            link_numbers::put(words, parts::WAITING_NUMBERS, parts::WAITING, f.number);
+            let step = Step {
+                events: events::request(done.turn.clock, list, done.events),
+                ..done
+            };
             link_draining::carry(
-                words, halves, bytes, clock, turn, from, status, list, n, delivery, a.at, outbound,
-                queue,
+                words, halves, bytes, clock, step, from, status, list, delivery, outbound, queue,
             )
         }
     }
@@ -94,50 +95,42 @@ fn enqueue(
     delivery: &mut [u8],
     outbound: &mut [u8],
     queue: &mut [u8],
-    number: u64,
-    kind: u8,
-    body: &[u8],
+    f: Frame,
 ) -> Ending
-    requires { Taking false status t (frame_of number kind body.now) words.old halves.old bytes.old clock.old list.old delivery.old outbound.old queue.old }
-    ensures { Anew status (frame_of number kind body.now) (opened_of (parts words.old halves.old bytes.old clock.old)) list.old delivery.old outbound.old queue.old (ended_of (opened_of (parts words.new halves.new bytes.new clock.new)) result) list.new delivery.new outbound.new queue.new }
+    requires { Taking false status t (lent_frame f) words.old halves.old bytes.old clock.old list.old delivery.old outbound.old queue.old }
+    ensures { Anew status (lent_frame f.entry) (opened_of (parts words.old halves.old bytes.old clock.old)) list.old delivery.old outbound.old queue.old (ended_of (opened_of (parts words.new halves.new bytes.new clock.new)) result) list.new delivery.new outbound.new queue.new }
 {
     let c = link_codes::clock_in(halves, clock);
-    if link_queue::holds(words, number) {
-        let n = events::request(c, list, 0);
+    if link_queue::holds(words, f.number) {
+        let step = Step {
+            turn: t,
+            events: events::request(c, list, 0),
+            at: 0,
+        };
         return link_draining::carry(
-            words, halves, bytes, clock, t, 0, status, list, n, delivery, 0, outbound, queue,
+            words, halves, bytes, clock, step, 0, status, list, delivery, outbound, queue,
         );
     }
     let count = words[parts::QUEUED];
     if words[parts::POLICY_MESSAGES] < count + 1 {
-        return link_draining::fail(
-            words,
-            halves,
-            bytes,
-            clock,
-            list,
-            0,
-            queue,
-            Refusal::QueueCount,
-        );
+        let x = Refusal::QueueCount;
+        return link_draining::fail(words, halves, bytes, clock, list, 0, queue, x);
     }
     let end = link_queue::start(halves, count as usize);
-    if words[parts::POLICY_BYTES] < (end + body.len()) as u64 {
-        return link_draining::fail(
-            words,
-            halves,
-            bytes,
-            clock,
-            list,
-            0,
-            queue,
-            Refusal::QueueBytes,
-        );
+    if words[parts::POLICY_BYTES] < (end + f.body.len()) as u64 {
+        let x = Refusal::QueueBytes;
+        return link_draining::fail(words, halves, bytes, clock, list, 0, queue, x);
     }
-    link_queue::insert(words, halves, bytes, queue, end, number, kind, body);
-    let n = events::request(c, list, 0);
+    link_queue::insert(
+        words, halves, bytes, queue, end, f.number, f.kind, f.body,
+    );
+    let step = Step {
+        turn: t,
+        events: events::request(c, list, 0),
+        at: 0,
+    };
     link_draining::carry(
-        words, halves, bytes, clock, t, 0, status, list, n, delivery, 0, outbound, queue,
+        words, halves, bytes, clock, step, 0, status, list, delivery, outbound, queue,
     )
 }
 
@@ -151,21 +144,18 @@ pub fn receive_new(
     delivery: &mut [u8],
     outbound: &mut [u8],
     queue: &mut [u8],
-    number: u64,
-    kind: u8,
-    body: &[u8],
+    f: Frame,
 ) -> Ending
-    requires { Receiving (frame_of number kind body.now) words.old halves.old bytes.old clock.old list.old delivery.old outbound.old queue.old }
-    ensures { Anew status (frame_of number kind body.now) (opened_of (parts words.old halves.old bytes.old clock.old)) list.old delivery.old outbound.old queue.old (ended_of (opened_of (parts words.new halves.new bytes.new clock.new)) result) list.new delivery.new outbound.new queue.new }
+    requires { Receiving (lent_frame f) words.old halves.old bytes.old clock.old list.old delivery.old outbound.old queue.old }
+    ensures { Anew status (lent_frame f.entry) (opened_of (parts words.old halves.old bytes.old clock.old)) list.old delivery.old outbound.old queue.old (ended_of (opened_of (parts words.new halves.new bytes.new clock.new)) result) list.new delivery.new outbound.new queue.new }
 {
     let t = link_draining::turn_of(words, halves, bytes, clock);
-    if receiving::delivers(t, status, number, kind) {
+    if receiving::delivers(t, status, f.number, f.kind) {
         return take_now(
-            words, halves, bytes, clock, t, status, list, delivery, outbound, queue, number, kind,
-            body,
+            words, halves, bytes, clock, t, status, list, delivery, outbound, queue, f,
         );
     }
     enqueue(
-        words, halves, bytes, clock, t, status, list, delivery, outbound, queue, number, kind, body,
+        words, halves, bytes, clock, t, status, list, delivery, outbound, queue, f,
     )
 }

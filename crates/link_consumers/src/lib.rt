@@ -7,6 +7,7 @@ ghost use Rattle.parts.specs.Parts.{parts};
 ghost use Rattle.parts.specs.Driven.{Driven};
 ghost use Rattle.link_consumers.specs.Modes.{Readying};
 
+use delivery::Step;
 use parts::{Bytes, Halves, LinkAnswer, Words};
 use rules::HostStatus;
 
@@ -27,9 +28,13 @@ fn ready(
     ensures { Driven (parts words.old halves.old bytes.old clock.old) (parts words.new halves.new bytes.new clock.new) result (λ s y. Called (is_ready status mode) s (lent list.old delivery.old outbound.old queue.old) y (lent list.new delivery.new outbound.new queue.new)) }
 {
     bytes[parts::MODE] = mode;
-    let t = link_draining::turn_of(words, halves, bytes, clock);
+    let step = Step {
+        turn: link_draining::turn_of(words, halves, bytes, clock),
+        events: 0,
+        at: 0,
+    };
     let e = link_draining::carry(
-        words, halves, bytes, clock, t, 0, status, list, 0, delivery, 0, outbound, queue,
+        words, halves, bytes, clock, step, 0, status, list, delivery, outbound, queue,
     );
     link_codes::plain(0, 0, e.events)
 }

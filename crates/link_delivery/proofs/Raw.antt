@@ -1,6 +1,10 @@
 -- A delivery in Raw mode. Assumes nothing.
 use mathlib.Core.Path.{◌≡◌, refl, sym, ap, ◌∙◌, subst}
-use mathlib.Core.Bool.{true}
+use mathlib.Core.Bool.{true, not, ◌||◌}
+use lib.Dec.{eqb}
+use Rattle.std.specs.Prelude.{Ok}
+use Rattle.rules.specs.State.{is_proposal}
+use Rattle.rules.specs.declared.ReceiveMode.{ReceiveMode}
 use mathlib.Core.List.{List, [], ◌∷◌}
 use Prim.Native.Nat.{ℕ, ◌+◌, ◌*◌, ◌≤◌, ◌<◌}
 use native.Mathlib.Omega.{arith}
@@ -13,21 +17,21 @@ use Rattle.rules.specs.State as R
 use Rattle.events.specs.Written.{Listed, asked, Books, books}
 use Rattle.events.proofs.Laws.{request_yes, request_no}
 use Rattle.delivery.specs.declared.Turn.{Turn}
-use Rattle.delivery.specs.Turns.{frame_of, Delivered}
+use Rattle.delivery.specs.Turns.{frame_of, step_at, Delivered}
 use Rattle.delivery.specs.Acts.{Available, Deliverable, HandedOver}
 use Rattle.delivery.proofs.Written.{handed_over}
 use Rattle.delivery.proofs.Queues.{part-size}
 use Rattle.delivery.proofs.Steps.{raw_is, did_message, did_consumed, deliver-goes}
-use Rattle.delivery.proofs.Tests.{available_in, deliverable_in}
-use Rattle.link_delivery.specs.Drains.{reached, step_to, HandedRaw}
+use Rattle.delivery.proofs.Tests.{listening, available_in}
+use Rattle.link_delivery.specs.Drains.{reached, HandedRaw}
 
 -- ---- what is asked of a turn
 
 pub raw_available : (status : HostStatus) (t : Turn) → status.available ≡ true → t.mode ≡ Raw → Available status t true
-raw_available status t on e = available_in status t Raw on e true refl
+raw_available status t on e = available_in status t on (ap (λ (m : ReceiveMode). listening m t) (sym e))
 
 pub raw_deliverable : (n k : ℕ) (t : Turn) → t.mode ≡ Raw → Deliverable n k t true
-raw_deliverable n k t e = deliverable_in n k t Raw e true refl
+raw_deliverable n k t e b s fs ws u = ap (λ (m : ReceiveMode). not (is_proposal m) || eqb n 1 || eqb k 2) (sym e ∙ u.mode)
 
 -- ---- what is written
 
@@ -46,11 +50,11 @@ module _ (number generation persisted : ℕ) (l : List ℕ) (n : ℕ) (d : Bytes
 
   -- with what is listed after it
   raw : (t : Turn) (kind : ℕ) → t.mode ≡ Raw → (l₂ : List ℕ) (k : ℕ) → Listed (asked (reached t number (t.clock.generation + 1)).clock) l₁ (n + 1) l₂ k
-      → Delivered (frame_of number kind body) t b (step_to (reached t number (t.clock.generation + 1)) k (at + length body)) l₂ d₁
+      → Delivered (frame_of number kind body) t b (Ok (step_at (reached t number (t.clock.generation + 1)) k (at + length body))) l₂ d₁
   raw t kind m l₂ k h =
       let g : R.Frame = frame_of number kind body in
-      deliver-goes g t b (record { listed = omega arith; filled = omega arith }) (step_to t (n + 1) (at + length body)) l₁ d₁
-      (did_consumed g m (λ st. raw_is g st) (omega arith) (did_message t b g l₁ d₁ over)) refl l₂ k h
+      deliver-goes g t b l₁ d₁ (record { listed = omega arith; filled = omega arith }) (step_at t (n + 1) (at + length body))
+      (did_consumed g m (λ st. raw_is g st) (omega arith) (did_message t b g over refl)) h refl
 
   -- the same, by the generation that it comes to and where the body comes from
   handed : {l₂ : List ℕ} {k : ℕ} → ((t : Turn) → t.clock.generation + 1 ≡ generation → t.clock.persisted ≡ persisted
@@ -59,9 +63,9 @@ module _ (number generation persisted : ℕ) (l : List ℕ) (n : ℕ) (d : Bytes
   handed {l₂} {k} h =
       record {
         delivered = λ t kind m eg ep.
-            subst (λ (x : Bytes). Delivered (frame_of number kind x) t b (step_to (reached t number generation) k (at + len)) l₂ d₁) is
-            (subst (λ (z : ℕ). Delivered (frame_of number kind body) t b (step_to (reached t number generation) k (at + z)) l₂ d₁) size
-            (subst (λ (g : ℕ). Delivered (frame_of number kind body) t b (step_to (reached t number g) k (at + length body)) l₂ d₁) eg
+            subst (λ (x : Bytes). Delivered (frame_of number kind x) t b (Ok (step_at (reached t number generation) k (at + len))) l₂ d₁) is
+            (subst (λ (z : ℕ). Delivered (frame_of number kind body) t b (Ok (step_at (reached t number generation) k (at + z))) l₂ d₁) size
+            (subst (λ (g : ℕ). Delivered (frame_of number kind body) t b (Ok (step_at (reached t number g) k (at + length body))) l₂ d₁) eg
             (raw t kind m l₂ k (h t eg ep))));
       }
 

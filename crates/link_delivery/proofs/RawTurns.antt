@@ -10,13 +10,13 @@ use Rattle.rules.specs.Lists.{Bytes}
 use Rattle.std.specs.Prelude.{None}
 use Rattle.events.specs.Written.{Books, books}
 use Rattle.delivery.specs.declared.Turn.{Turn}
-use Rattle.delivery.specs.Turns.{Drains}
+use Rattle.delivery.specs.Turns.{step_at, Drains}
 use Rattle.delivery.specs.Acts.{drained_by}
 use Rattle.delivery.proofs.Drains.{next_small}
 use Rattle.parts.specs.Parts.{at, queue_in, waiting_in}
 use Rattle.link_queue.specs.Steps.{bodies}
 use Rattle.link_delivery.specs.declared.DrainEnd.{DrainEnd}
-use Rattle.link_delivery.specs.Drains.{DrainsIn, Left, reached, step_to, HandedRaw, DrainingRaw}
+use Rattle.link_delivery.specs.Drains.{DrainsIn, Left, reached, HandedRaw, DrainingRaw}
 use Rattle.link_delivery.proofs.Turns.{TurnsIn, held, turns_in, ends_in, reaches_in, on_in, ready_in, more_in}
 use Rattle.link_delivery.proofs.Raw.{raw_available, raw_deliverable}
 
@@ -75,8 +75,8 @@ module _ {t₀ : Turn} {w₀ h c : List ℕ} {i₀ : ℕ} {q : Bytes} {b₀ : Bo
         let y : (status : HostStatus) → status.available ≡ true
         → TurnsIn status t₀ w₀ h c i₀ q b₀ (reached t₀ (at w (16 + i)) (g + 1)) (set w (272 + k) (at w (16 + i))) (k + 1) (i + 1) (a + len) (books l' n' d' (b.at + len)) =
         λ s on.
-        more_in (v.turns s on) l is e true (raw_available s t on v.mode) refl true (raw_deliverable (at w (16 + i)) (at c (512 + i)) t v.mode) refl
-        (x.delivered t (at c (512 + i)) v.mode refl ep) refl ll ld in
+        more_in (v.turns s on) l is e (raw_available s t on v.mode) (raw_deliverable (at w (16 + i)) (at c (512 + i)) t v.mode) refl
+        (x.delivered t (at c (512 + i)) v.mode refl ep) ll ld in
         let z = y some_host refl in
         record {
           mode = v.mode;
@@ -89,9 +89,9 @@ module _ {t₀ : Turn} {w₀ h c : List ℕ} {i₀ : ℕ} {q : Bytes} {b₀ : Bo
         }
 
   -- the turn is put together
-  pub raw_ends : {status : HostStatus} → status.available ≡ true → {u : Turn} {e : DrainEnd} {w' : List ℕ} → u ≡ reached t₀ r g
-      → Drains status t₀ (waiting_in w₀) (queue_in w₀ h c) i₀ q b₀ (drained_by (reached t₀ r g) (held w k) i b.n b.at None) b.list b.delivery
-      → Left (step_to u b.n b.at) k i None w e w' → DrainsIn status t₀ i₀ w₀ h c q b₀ e w' b.list b.delivery
-  raw_ends {status} on {u} {e} {w'} eu d x =
+  pub raw_ends : {status : HostStatus} → status.available ≡ true → {j : ℕ} {u : Turn} {e : DrainEnd} {w' : List ℕ} → u ≡ reached t₀ r g
+      → Drains status t₀ (waiting_in w₀) (queue_in w₀ h c) i₀ q b₀ (drained_by (reached t₀ r g) (held w k) j b.n b.at None) b.list b.delivery
+      → Left (step_at u b.n b.at) k j None w e w' → DrainsIn status t₀ i₀ w₀ h c q b₀ e w' b.list b.delivery
+  raw_ends {status} on {j} {u} {e} {w'} eu d x =
       ends_in (v.turns status on)
-      (subst (λ (y : Turn). Drains status t₀ (waiting_in w₀) (queue_in w₀ h c) i₀ q b₀ (drained_by y (held w k) i b.n b.at None) b.list b.delivery) (sym eu) d) x
+      (subst (λ (y : Turn). Drains status t₀ (waiting_in w₀) (queue_in w₀ h c) i₀ q b₀ (drained_by y (held w k) j b.n b.at None) b.list b.delivery) (sym eu) d) x

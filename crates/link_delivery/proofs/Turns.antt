@@ -10,7 +10,7 @@ use Rattle.rules.specs.declared.HostStatus.{HostStatus}
 use Rattle.rules.specs.declared.Refusal.{Refusal}
 use Rattle.rules.specs.Lists.{Bytes, total, itself}
 use Rattle.rules.specs.State as R
-use Rattle.std.specs.Prelude.{Option, None, Some}
+use Rattle.std.specs.Prelude.{Option, None, Some, Result, Ok, Err}
 use Rattle.events.specs.Written.{Books, books}
 use Rattle.numbers.specs.declared.Numbers.{Numbers}
 use Rattle.queue.specs.declared.Queued.{Queued}
@@ -22,7 +22,7 @@ use Rattle.delivery.specs.declared.Step.{Step}
 use Rattle.delivery.specs.Turns.{Ready, Delivered, Draining, Drains, frame_of}
 use Rattle.delivery.specs.Acts.{Available, Deliverable, drained_by}
 use Rattle.delivery.proofs.Queues.{queue_record_at, frame_at, with_last}
-use Rattle.delivery.proofs.Drains.{Turns, turns_none, turns_more, ready, reaches, on-small, has_room, out_later, out_undeliverable, out_refused}
+use Rattle.delivery.proofs.Drains.{Turns, turns_none, turns_more, ready, reaches, on-small, has_room, ready_for, out_later, out_undeliverable, out_refused}
 use Rattle.parts.specs.Seats.{seats}
 use Rattle.parts.specs.Parts.{at, section, queued_at, queue_in, waiting_in}
 use Rattle.parts.specs.Frames.{Only}
@@ -88,12 +88,12 @@ module _ {status : HostStatus} {t₀ : Turn} {w₀ h c : List ℕ} {i₀ : ℕ} 
   room = omega (arith, v.only.size, section-room 272 w₀ v.turns.pre.waits.full)
 
   -- the count of the acks that wait is stored
-  pub ends_in : {s : Step} {z : Option Refusal} {r : DrainEnd} {w' l' : List ℕ} {d' : Bytes}
-      → Drains status t₀ (waiting_in w₀) (queue_in w₀ h c) i₀ q b₀ (drained_by s.turn (held w k) i s.events s.at z) l' d' → Left s k i z w r w'
+  pub ends_in : {j : ℕ} {s : Step} {z : Option Refusal} {r : DrainEnd} {w' l' : List ℕ} {d' : Bytes}
+      → Drains status t₀ (waiting_in w₀) (queue_in w₀ h c) i₀ q b₀ (drained_by s.turn (held w k) j s.events s.at z) l' d' → Left s k j z w r w'
       → DrainsIn status t₀ i₀ w₀ h c q b₀ r w' l' d'
-  ends_in {s} {z} {r} {w'} {l'} {d'} d e =
+  ends_in {j} {s} {z} {r} {w'} {l'} {d'} d e =
       let n : waiting_in w' ≡ held w k = ap waiting_in e.words ∙ waiting-held w k room in
-      let D : Numbers → Type 0 = λ x. Drains status t₀ (waiting_in w₀) (queue_in w₀ h c) i₀ q b₀ (drained_by s.turn x i s.events s.at z) l' d' in
+      let D : Numbers → Type 0 = λ x. Drains status t₀ (waiting_in w₀) (queue_in w₀ h c) i₀ q b₀ (drained_by s.turn x j s.events s.at z) l' d' in
       subst (λ (y : DrainEnd). DrainsIn status t₀ i₀ w₀ h c q b₀ y w' l' d') (sym e.end)
       (record { drains = subst D (sym n) d; only = subst (λ (x : List ℕ). Only 272 5 w₀ x) (sym e.words) (only-count v.only k (omega arith)) })
 
@@ -129,6 +129,10 @@ module _ {status : HostStatus} {t₀ : Turn} {w₀ h c : List ℕ} {i₀ : ℕ} 
       pub ready_in : Ready t len (length b.list) b.n (length b.delivery) b.at
       ready_in = subst (λ (m : ℕ). Ready t m (length b.list) b.n (length b.delivery) b.at) len_is (ready v.turns l)
 
+      -- a body of that length that lies there
+      pub ready_body : {y : Bytes} → y ≡ take len (drop a q) → Ready t (length y) (length b.list) b.n (length b.delivery) b.at
+      ready_body e = ready_for v.turns l (e ∙ ap (λ (m : ℕ). take m (drop a q)) (sym len_is))
+
       frame_is : frame_at x i a q ≡ frame_of (at w (16 + i)) (at c (512 + i)) (take len (drop a q))
       frame_is =
           let n : (queue_record_at x i).number ≡ at w (16 + i) = number_is in
@@ -145,38 +149,40 @@ module _ {status : HostStatus} {t₀ : Turn} {w₀ h c : List ℕ} {i₀ : ℕ} 
           subst (λ (n : ℕ). Deliverable n (queue_record_at x i).kind t r) (sym number_is)
           (subst (λ (m : ℕ). Deliverable (at w (16 + i)) m t r) (sym kind-is) g)
 
-      pub undeliverable_in : (r : Bool) → Deliverable (at w (16 + i)) (at c (512 + i)) t r → r ≡ false
+      pub undeliverable_in : Deliverable (at w (16 + i)) (at c (512 + i)) t false
           → Drains status t₀ (waiting_in w₀) (queue_in w₀ h c) i₀ q b₀ (drained_by t (held w k) i b.n b.at None) b.list b.delivery
-      undeliverable_in r g e = out_undeliverable v.turns l is_next r (asked_of g) e
+      undeliverable_in g = out_undeliverable v.turns l is_next (asked_of g)
 
       -- a delivery
-      module _ {len : ℕ} (el : len ≡ at h (512 + i)) (av : Bool) (av-is : Available status t av) (on : av ≡ true)
-          (de : Bool) (de-is : Deliverable (at w (16 + i)) (at c (512 + i)) t de) (yes : de ≡ true)
-          {r : Step} {l' : List ℕ} {d' : Bytes} (g : Delivered (frame_of (at w (16 + i)) (at c (512 + i)) (take len (drop a q))) t b r l' d') where
-        done : Delivered (frame_at x i a q) t b r l' d'
-        done = subst (λ (f : R.Frame). Delivered f t b r l' d') (sym (frame_is el)) g
+      module _ {len : ℕ} (el : len ≡ at h (512 + i)) (on : Available status t true) (yes : Deliverable (at w (16 + i)) (at c (512 + i)) t true)
+          {y : Bytes} (ey : y ≡ take len (drop a q)) where
+        done : {r : Result Step Refusal} {l' : List ℕ} {d' : Bytes} → Delivered (frame_of (at w (16 + i)) (at c (512 + i)) y) t b r l' d'
+            → Delivered (frame_at x i a q) t b r l' d'
+        done {r} {l'} {d'} g =
+            subst (λ (f : R.Frame). Delivered f t b r l' d') (ap (frame_of (at w (16 + i)) (at c (512 + i))) ey ∙ sym (frame_is el)) g
 
-        pub refused_in : (z : Refusal) → r.stop ≡ Some z
-            → Drains status t₀ (waiting_in w₀) (queue_in w₀ h c) i₀ q b₀ (drained_by r.turn (held w k) i r.events r.at (Some z)) l' d'
-        refused_in z e = out_refused v.turns l is_next av av-is on de (asked_of de-is) yes r l' d' done z e
+        pub refused_in : {z : Refusal} {l' : List ℕ} {d' : Bytes} → Delivered (frame_of (at w (16 + i)) (at c (512 + i)) y) t b (Err z) l' d'
+            → Drains status t₀ (waiting_in w₀) (queue_in w₀ h c) i₀ q b₀ (drained_by t (held w k) i b.n b.at (Some z)) l' d'
+        refused_in g = out_refused v.turns l is_next on (asked_of yes) (done g)
 
         -- its ack is stored after those that wait
-        pub more_in : r.stop ≡ None → length l' ≡ length b.list → length d' ≡ length b.delivery
+        pub more_in : {r : Step} {l' : List ℕ} {d' : Bytes} → Delivered (frame_of (at w (16 + i)) (at c (512 + i)) y) t b (Ok r) l' d'
+            → length l' ≡ length b.list → length d' ≡ length b.delivery
             → TurnsIn status t₀ w₀ h c i₀ q b₀ r.turn (set w (272 + k) (at w (16 + i))) (k + 1) (i + 1) (a + len) (books l' r.events d' r.at)
-        more_in e ll ld =
-            let y : ℕ = at w (16 + i) in
+        more_in {r} {l'} {d'} g ll ld =
+            let m : ℕ = at w (16 + i) in
             let f : k < 512 = has_room v.turns l in
             let T : Numbers → ℕ → Type 0 =
-            λ u m. Turns status t₀ (waiting_in w₀) (queue_in w₀ h c) i₀ q b₀ r.turn u (i + 1) m (books l' r.events d' r.at) in
-            let n : with_last (queue_record_at x i).number (held w k) ≡ held (set w (272 + k) y) (k + 1) =
-            ap (λ (j : ℕ). with_last j (held w k)) number_is ∙ ap (λ (s : List ℕ). record { values = s; count = k + 1 }) (sym (section-set 272 w k y f)) in
+            λ u j. Turns status t₀ (waiting_in w₀) (queue_in w₀ h c) i₀ q b₀ r.turn u (i + 1) j (books l' r.events d' r.at) in
+            let n : with_last (queue_record_at x i).number (held w k) ≡ held (set w (272 + k) m) (k + 1) =
+            ap (λ (j : ℕ). with_last j (held w k)) number_is ∙ ap (λ (s : List ℕ). record { values = s; count = k + 1 }) (sym (section-set 272 w k m f)) in
             let z : T (with_last (queue_record_at x i).number (held w k)) (a + (queue_record_at x i).len) =
-            turns_more v.turns l is_next av av-is on de (asked_of de-is) yes r l' d' done e ll ld in
+            turns_more v.turns l is_next on (asked_of yes) (done g) ll ld in
             record {
               turns =
-                  subst (λ (m : ℕ). T (held (set w (272 + k) y) (k + 1)) (a + m)) (len_is el)
+                  subst (λ (j : ℕ). T (held (set w (272 + k) m) (k + 1)) (a + j)) (len_is el)
                   (subst (λ (u : Numbers). T u (a + (queue_record_at x i).len)) n z);
-              only = only-number v.only k y f;
+              only = only-number v.only k m f;
               few = v.few;
               within = omega arith;
               many = omega (arith, v.many);

@@ -1,5 +1,5 @@
 -- The drain of the queue in place: the acks that wait grow in the words of a session. Assumes nothing.
-use Rattle.std.specs.Prelude.{ℕ, ◌+◌, ◌≡◌, true, List, set, Option, None}
+use Rattle.std.specs.Prelude.{ℕ, ◌+◌, ◌≡◌, true, List, set, Option, Ok}
 use Rattle.rules.specs.declared.HostStatus.{HostStatus}
 use Rattle.rules.specs.declared.ReceiveMode.TheVariants.{Raw}
 use Rattle.rules.specs.Lists.{Bytes}
@@ -7,7 +7,7 @@ use Rattle.rules.specs.declared.Refusal.{Refusal}
 use Rattle.events.specs.Written.{Books}
 use Rattle.delivery.specs.declared.Turn.{Turn}
 use Rattle.delivery.specs.declared.Step.{Step}
-use Rattle.delivery.specs.Turns.{frame_of, Delivered, Draining, Drains}
+use Rattle.delivery.specs.Turns.{frame_of, step_at, Delivered, Draining, Drains}
 use Rattle.delivery.specs.Acts.{drained_by}
 use Rattle.parts.specs.Parts.{queue_in, waiting_in}
 use Rattle.parts.specs.Frames.{Only}
@@ -17,17 +17,17 @@ use Rattle.link_delivery.specs.declared.DrainEnd.{DrainEnd}
 
 -- the drain of the plain session, and only the acks that wait change
 pub record DrainsIn (status : HostStatus) (t : Turn) (i : ℕ) (w h b : List ℕ) (q : Bytes) (k : Books) (r : DrainEnd) (w' l' : List ℕ) (d' : Bytes) : Type 0 where
-  pub drains : Drains status t (waiting_in w) (queue_in w h b) i q k (drained_by r.turn (waiting_in w') r.taken r.events r.at r.stop) l' d'
+  pub drains : Drains status t (waiting_in w) (queue_in w h b) i q k (drained_by r.step.turn (waiting_in w') r.taken r.step.events r.step.at r.stop) l' d'
   pub only : Only 272 5 w w'
 
 -- ---- its end
 
-abbrev pub drain_end : Turn → ℕ → ℕ → ℕ → Option Refusal → DrainEnd
-drain_end t i n at z = record { turn = t; taken = i; events = n; at = at; stop = z }
+abbrev pub drain_end : Step → ℕ → Option Refusal → DrainEnd
+drain_end s i z = record { step = s; taken = i; stop = z }
 
 -- the loop is left with k acks that wait, and frame i not taken
 pub record Left (s : Step) (k i : ℕ) (z : Option Refusal) (w : List ℕ) (r : DrainEnd) (w' : List ℕ) : Type 0 where
-  pub end : r ≡ drain_end s.turn i s.events s.at z
+  pub end : r ≡ drain_end s i z
   pub words : w' ≡ set w 5 k
 
 -- ---- Raw mode, in which a delivery changes the remote number and the generation, and nothing else of a turn
@@ -52,13 +52,10 @@ reached t n g =
       dropped = t.dropped;
     }
 
-abbrev pub step_to : Turn → ℕ → ℕ → Step
-step_to t n at = record { turn = t; events = n; at = at; stop = None }
-
 -- a message of len bytes is delivered, whatever the turn is that has this mode, this generation after it, and this persisted one
 pub record HandedRaw (number generation persisted len : ℕ) (body : Bytes) (b : Books) (n' : ℕ) (l' : List ℕ) (d' : Bytes) : Type 0 where
   pub delivered : (t : Turn) (kind : ℕ) → t.mode ≡ Raw → t.clock.generation + 1 ≡ generation → t.clock.persisted ≡ persisted
-      → Delivered (frame_of number kind body) t b (step_to (reached t number generation) n' (b.at + len)) l' d'
+      → Delivered (frame_of number kind body) t b (Ok (step_at (reached t number generation) n' (b.at + len))) l' d'
 
 -- what is asked for a drain in Raw mode
 pub record DrainingRaw (status : HostStatus) (t : Turn) (w h b : List ℕ) (i : ℕ) (q : Bytes) (k : Books) : Type 0 where

@@ -125,30 +125,30 @@ module _ {t : Turn} {from : ℕ} (w h b : List ℕ) (c : Float) {l : List ℕ} {
     others : opened_of (parts w₁ h b c) ≡ with_waiting (waiting_in w₁) (opened_of (parts w h b c))
     others = rewaited w h b c (omega arith) (omega arith) k.only
 
-    pub finishing_in : Finishing r.turn r.taken (opened_of (parts w₁ h b c)) (length o) (length q)
+    pub finishing_in : Finishing r.step.turn r.taken (opened_of (parts w₁ h b c)) (length o) (length q)
     unfolding opened_of
     finishing_in =
-        subst (λ (z : SessionState). Finishing r.turn r.taken z (length o) (length q)) (sym others)
-        (finishing_same r.turn (waiting_in w₁) (opened_of (parts w h b c)) (waiting_in w₁) (C.finishing pre k.drains))
+        subst (λ (z : SessionState). Finishing r.step.turn r.taken z (length o) (length q)) (sym others)
+        (finishing_same r.step.turn (waiting_in w₁) (opened_of (parts w h b c)) (waiting_in w₁) (C.finishing pre k.drains))
 
-    pub abandoning_in : length l₁ ≡ length l → Abandoning r.turn (waiting_in w₁) (opened_of (parts w₁ h b c)) r.events (length l₁) (length o) (length q)
+    pub abandoning_in : length l₁ ≡ length l → Abandoning r.step.turn (waiting_in w₁) (opened_of (parts w₁ h b c)) r.step.events (length l₁) (length o) (length q)
     unfolding opened_of
     abandoning_in e =
-        subst (λ (z : SessionState). Abandoning r.turn (waiting_in w₁) z r.events (length l₁) (length o) (length q)) (sym others)
-        (abandoning_same r.turn (waiting_in w₁) (opened_of (parts w h b c)) (waiting_in w₁) k.drains.waits (C.abandoning pre k.drains e))
+        subst (λ (z : SessionState). Abandoning r.step.turn (waiting_in w₁) z r.step.events (length l₁) (length o) (length q)) (sym others)
+        (abandoning_same r.step.turn (waiting_in w₁) (opened_of (parts w h b c)) (waiting_in w₁) k.drains.waits (C.abandoning pre k.drains e))
 
     pub carries_on_in : r.stop ≡ None → {r₂ : SessionState} {o' q' : Bytes}
-        → Finishes r.turn (waiting_in w₁) r.taken (opened_of (parts w₁ h b c)) o q r₂ o' q'
-        → Carries status t (waiting_in w) from (opened_of (parts w h b c)) l n d at' o q (record { session = r₂; events = r.events; stop = None }) l₁ d₁ o' q'
+        → Finishes r.step.turn (waiting_in w₁) r.taken (opened_of (parts w₁ h b c)) o q r₂ o' q'
+        → Carries status t (waiting_in w) from (opened_of (parts w h b c)) l n d at' o q (record { session = r₂; events = r.step.events; stop = None }) l₁ d₁ o' q'
     unfolding opened_of
     carries_on_in z {r₂} {o'} {q'} f =
         C.carries-on pre k.drains z
-        (finishes_same r.turn (waiting_in w₁) (opened_of (parts w h b c)) (waiting_in w₁) (subst (λ (y : SessionState). Finishes r.turn (waiting_in w₁) r.taken y o q r₂ o' q') others f))
+        (finishes_same r.step.turn (waiting_in w₁) (opened_of (parts w h b c)) (waiting_in w₁) (subst (λ (y : SessionState). Finishes r.step.turn (waiting_in w₁) r.taken y o q r₂ o' q') others f))
 
     pub carries_not_in : (x : Refusal) → r.stop ≡ Some x → {e : Ended} {l' : List ℕ} {o' q' : Bytes}
-        → Abandons x r.turn (waiting_in w₁) (opened_of (parts w₁ h b c)) l₁ r.events o q e l' o' q'
+        → Abandons x r.step.turn (waiting_in w₁) (opened_of (parts w₁ h b c)) l₁ r.step.events o q e l' o' q'
         → Carries status t (waiting_in w) from (opened_of (parts w h b c)) l n d at' o q e l' d₁ o' q'
     unfolding opened_of
     carries_not_in x z {e} {l'} {o'} {q'} a =
         C.carries_not pre k.drains x z
-        (abandons_same r.turn (waiting_in w₁) (opened_of (parts w h b c)) (waiting_in w₁) (subst (λ (y : SessionState). Abandons x r.turn (waiting_in w₁) y l₁ r.events o q e l' o' q') others a))
+        (abandons_same r.step.turn (waiting_in w₁) (opened_of (parts w h b c)) (waiting_in w₁) (subst (λ (y : SessionState). Abandons x r.step.turn (waiting_in w₁) y l₁ r.step.events o q e l' o' q') others a))

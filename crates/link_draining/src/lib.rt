@@ -14,9 +14,9 @@ ghost use Rattle.link_outbox.specs.Steps.{Joins};
 ghost use Rattle.link_draining.specs.Steps.{Discards, SettlesIn, Timed, AdvancesIn, failed_bytes, Failing};
 ghost use Rattle.link_draining.specs.Endings.{ended_of};
 
-use delivery::Turn;
+use delivery::{Step, Turn};
 use parts::{Bytes, Halves, Words};
-use rules::{Clock, EventCode, HostStatus, Refusal};
+use rules::{Clock, HostStatus, Refusal};
 
 // The count of events at a call's end, and the refusal that ended it.
 #[derive(Clone, Copy)]
@@ -31,13 +31,11 @@ pub fn turn_of(words: &Words, halves: &Halves, bytes: &Bytes, clock: &f64) -> Tu
     requires { good_codes (codes_in halves.now bytes.now) ≡ true }
     ensures { result ≡ turn_of (opened_of (parts words.now halves.now bytes.now clock.now)) }
 {
-    let mode = link_codes::mode_of(bytes[parts::MODE]);
-    let time = link_codes::clock_in(halves, clock);
     Turn {
-        mode: mode,
+        mode: link_codes::mode_of(bytes[parts::MODE]),
         failed: bytes[parts::FAILED] != 0,
         remote: words[parts::REMOTE],
-        clock: time,
+        clock: link_codes::clock_in(halves, clock),
         disposition: bytes[parts::DISPOSITION],
         next: words[parts::NEXT],
         unacked: 0 < words[parts::UNACKED],
@@ -52,9 +50,7 @@ fn send_reject(words: &mut Words, halves: &mut Halves, bytes: &mut Bytes, outbou
     ensures { Joins words.old halves.old bytes.old outbound.old (reject_of (reject_in words.old bytes.old)) words.new halves.new bytes.new outbound.new }
 {
     let j = link_codes::reject_in(words, bytes);
-    let body = j.bytes;
-    let len = j.len;
-    link_outbox::append(words, halves, bytes, outbound, 0, &body[..len]);
+    link_outbox::append(words, halves, bytes, outbound, 0, &j.bytes[..j.len]);
 }
 
 // All messages go.
@@ -74,8 +70,7 @@ fn settle(words: &mut Words, halves: &mut Halves, bytes: &mut Bytes, outbound: &
 {
     if t.sent {
         if t.dropped {
-            let next = words[parts::NEXT];
-            words[parts::NEXT] = next + 1;
+            words[parts::NEXT] += 1;
             return;
         }
         send_reject(words, halves, bytes, outbound);
@@ -111,8 +106,7 @@ fn advance(
     settle(words, halves, bytes, outbound, t);
     words[parts::REMOTE] = t.remote;
     bytes[parts::DISPOSITION] = t.disposition;
-    let k = t.clock;
-    set_clock(halves, clock, k);
+    set_clock(halves, clock, t.clock);
 }
 
 // The same with its queue, from whose front frames were taken.
@@ -141,7 +135,6 @@ fn mark_failed(bytes: &mut Bytes)
 {
     if bytes[parts::MODE] == 2 {
         bytes[parts::FAILED] = 1;
-        return;
     }
 }
 
@@ -191,40 +184,33 @@ pub fn abandon(
 
 // ---- the drain, and the end of a call
 
-// Drains the queue from index from on, with n events and at delivery bytes so far, and stores what came of it.
+// Drains the queue from index from on, after a step, and stores what came of it.
 pub fn carry(
     words: &mut Words,
     halves: &mut Halves,
     bytes: &mut Bytes,
     clock: &mut f64,
-    t: Turn,
+    step: Step,
     from: usize,
     status: HostStatus,
     list: &mut [u64],
-    n: usize,
     delivery: &mut [u8],
-    at: usize,
     outbound: &mut [u8],
     queue: &mut [u8],
 ) -> Ending
-    requires { (Carrying t (waiting_in words.old) from (opened_of (parts words.old halves.old bytes.old clock.old)) list.old n delivery.old at outbound.old queue.old) × (good_codes (codes_in halves.old bytes.old) ≡ true) }
-    ensures { Carries status t (waiting_in words.old) from (opened_of (parts words.old halves.old bytes.old clock.old)) list.old n delivery.old at outbound.old queue.old (ended_of (opened_of (parts words.new halves.new bytes.new clock.new)) result) list.new delivery.new outbound.new queue.new }
+    requires { (Carrying step.turn (waiting_in words.old) from (opened_of (parts words.old halves.old bytes.old clock.old)) list.old step.events delivery.old step.at outbound.old queue.old) × (good_codes (codes_in halves.old bytes.old) ≡ true) }
+    ensures { Carries status step.turn (waiting_in words.old) from (opened_of (parts words.old halves.old bytes.old clock.old)) list.old step.events delivery.old step.at outbound.old queue.old (ended_of (opened_of (parts words.new halves.new bytes.new clock.new)) result) list.new delivery.new outbound.new queue.new }
 {
-    let d = link_delivery::drain(
-        t, words, halves, bytes, from, queue, status, list, n, delivery, at,
-    );
-    let turn = d.turn;
-    let stop = d.stop;
-    match stop {
+    let d = link_delivery::drain(step, words, halves, bytes, from, queue, status, list, delivery);
+    let turn = d.step.turn;
+    let events = d.step.events;
+    match d.stop {
         Some(x) => abandon(
-            words, halves, bytes, clock, list, d.events, outbound, queue, turn, x,
+            words, halves, bytes, clock, list, events, outbound, queue, turn, x,
         ),
         None => {
             finish(words, halves, bytes, clock, outbound, queue, turn, d.taken);
-            Ending {
-                events: d.events,
-                stop: None,
-            }
+            Ending { events, stop: None }
         }
     }
 }

@@ -5,13 +5,14 @@ ghost use Rattle.std.specs.Prelude.{◌≡◌, true};
 ghost use Rattle.rules.specs.declared.Answer.TheVariants.{Flag};
 ghost use Rattle.rules.specs.Calls.{gets_data};
 ghost use Rattle.session.specs.Promise.{lent, Called};
-ghost use Rattle.delivery.specs.Turns.{frame_of};
+ghost use Rattle.delivery.specs.Turns.{frame_of, lent_frame};
 ghost use Rattle.draining.specs.Arrived.{told};
 ghost use Rattle.parts.specs.Codes.{answer_of};
 ghost use Rattle.parts.specs.Parts.{parts};
 ghost use Rattle.parts.specs.Driven.{Driven};
 ghost use Rattle.link_receiving.specs.Steps.{Arriving};
 
+use delivery::Frame;
 use link_draining::Ending;
 use parts::{Bytes, Halves, LinkAnswer, Words};
 use receiving::Verdict;
@@ -21,8 +22,7 @@ use rules::{Answer, HostStatus};
 fn answered(e: Ending) -> LinkAnswer
     ensures { result ≡ answer_of (told (Flag true) e.stop) e.events }
 {
-    let stop = e.stop;
-    match stop {
+    match e.stop {
         None => link_codes::plain(2, 1, e.events),
         Some(x) => link_codes::answer_of(Answer::Refused(x), e.events),
     }
@@ -38,28 +38,24 @@ pub fn receive(
     outbound: &mut [u8],
     queue: &mut [u8],
     status: HostStatus,
-    number: u64,
-    kind: u8,
-    body: &[u8],
+    f: Frame,
 ) -> LinkAnswer
-    requires { Arriving (frame_of number kind body.now) words.old halves.old bytes.old clock.old list.old delivery.old outbound.old queue.old }
-    ensures { Driven (parts words.old halves.old bytes.old clock.old) (parts words.new halves.new bytes.new clock.new) result (λ s y. Called (gets_data status (frame_of number kind body.now)) s (lent list.old delivery.old outbound.old queue.old) y (lent list.new delivery.new outbound.new queue.new)) }
+    requires { Arriving (lent_frame f) words.old halves.old bytes.old clock.old list.old delivery.old outbound.old queue.old }
+    ensures { Driven (parts words.old halves.old bytes.old clock.old) (parts words.new halves.new bytes.new clock.new) result (λ s y. Called (gets_data status (lent_frame f.entry)) s (lent list.old delivery.old outbound.old queue.old) y (lent list.new delivery.new outbound.new queue.new)) }
 {
-    let verdict = link_checks::check(words, number, body.len());
-    match verdict {
+    match link_checks::check(words, f.number, f.body.len()) {
         Verdict::Refuse(x) => link_codes::refusal(x),
         Verdict::Fail(x) => {
             let e = link_draining::fail(words, halves, bytes, clock, list, 0, queue, x);
             answered(e)
         }
         Verdict::Again => {
-            let e = link_arrivals::receive_again(words, halves, bytes, clock, list, number);
+            let e = link_arrivals::receive_again(words, halves, bytes, clock, list, f.number);
             answered(e)
         }
         Verdict::New => {
             let e = link_arrivals::receive_new(
-                words, halves, bytes, clock, status, list, delivery, outbound, queue, number, kind,
-                body,
+                words, halves, bytes, clock, status, list, delivery, outbound, queue, f,
             );
             answered(e)
         }
@@ -95,9 +91,15 @@ pub fn data(
     );
     match stop {
         Some(x) => link_codes::refusal(x),
-        None => receive(
-            words, halves, bytes, clock, list, delivery, outbound, queue, status, number,
-            kind as u8, body,
-        ),
+        None => {
+            let f = Frame {
+                number,
+                kind: kind as u8,
+                body,
+            };
+            receive(
+                words, halves, bytes, clock, list, delivery, outbound, queue, status, f,
+            )
+        }
     }
 }

@@ -53,13 +53,11 @@ module _ (x : Reliable) (ns ks : List ℕ) (bodies : Bytes) (policy : Policy) (r
     pub short-queue : m < 32768 → NotGood x ns ks bodies policy reject n m ShortBuffer
     short-queue h = record { call = λ o q eo eq r t. Plain.queue-short x ns ks bodies policy reject o q (omega (arith, eo)) r (omega (arith, eq)) t }
 
-    module _ (lq : 32768 ≤ m) {v : Result (Unit {0}) Refusal} (e : v ≡ verdict_of (short_record ns ks bodies) (start (reliable_of x ns ks bodies) policy reject)) where
-      pub not_good : (z : Refusal) → v ≡ Err z → NotGood x ns ks bodies policy reject n m z
-      not_good z f =
-          record { call = λ o q eo eq r t. Plain.record_refused x ns ks bodies policy reject o q (omega (arith, eo)) (omega (arith, eq)) r z (sym f ∙ e) t }
-
-      pub is-good : v ≡ Ok tt → Judged x ns ks bodies policy reject n m
-      is-good f = record { outbound = lo; queue = lq; good = sym e ∙ f }
+    pub judged : 32768 ≤ m → {v : Result (Unit {0}) Refusal} → v ≡ verdict_of (short_record ns ks bodies) (start (reliable_of x ns ks bodies) policy reject)
+        → FoundStart x ns ks bodies policy reject n m v
+    judged lq {v = Ok u} e = record { outbound = lo; queue = lq; good = sym e }
+    judged lq {v = Err z} e =
+        record { call = λ o q eo eq r t. Plain.record_refused x ns ks bodies policy reject o q (omega (arith, eo)) (omega (arith, eq)) r z e t }
 
 -- what the tests found, by their stop
 module _ (x : Reliable) (ns ks : List ℕ) (bodies : Bytes) (policy : Policy) (reject : Bytes) {n m : ℕ} {stop : Result (Unit {0}) Refusal}

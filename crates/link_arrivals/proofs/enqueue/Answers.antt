@@ -6,17 +6,17 @@ pub holds-requires : goal.holds-requires
 holds-requires c =
     topped-later c.args.words.now c.args.halves.now c.args.bytes.now c.args.clock.now c.requires
 
-pub request-n-requires : goal.request-n-requires
-request-n-requires c =
+pub request-requires : goal.request-requires
+request-requires c =
     omega (arith, listed-later c.args.words.now c.args.halves.now c.args.bytes.now c.args.clock.now c.requires)
 
 pub carry-requires : goal.carry-requires
 carry-requires c =
-    carrying_kept c.args.words.now c.args.halves.now c.args.bytes.now c.args.clock.now c.requires c.clock_in-c.ensures c.request-n.ensures c.request-n.auto.list
+    carrying_kept c.args.words.now c.args.halves.now c.args.bytes.now c.args.clock.now c.requires c.clock_in-c.ensures c.request.ensures c.request.auto.list
 
 pub returns-then-holds : goal.returns-then-holds
 returns-then-holds c =
-    queued_already c.args.words.now c.args.halves.now c.args.bytes.now c.args.clock.now c.requires c.clock_in-c.ensures c.request-n.ensures c.holds.ensures c.if-holds.true c.carry.ensures
+    queued_already c.args.words.now c.args.halves.now c.args.bytes.now c.args.clock.now c.requires c.clock_in-c.ensures c.request.ensures c.holds.ensures c.if-holds.true c.carry.ensures
 
 pub overflow_add-count : goal.overflow_add-count
 overflow_add-count c =
@@ -50,14 +50,14 @@ pub insert-requires : goal.insert-requires
 insert-requires c =
     may_insert c.args.words.now c.args.halves.now c.args.bytes.now c.args.clock.now c.requires c.holds.ensures c.if-holds.false c.if-words-count.false c.start-end.ensures c.if-words-end.false
 
-pub request-n-requires-2 : goal.request-n-requires-2
-request-n-requires-2 c =
+pub request-requires-2 : goal.request-requires-2
+request-requires-2 c =
     omega (arith, listed-later c.args.words.now c.args.halves.now c.args.bytes.now c.args.clock.now c.requires)
 
 pub carry-requires-2 : goal.carry-requires-2
 carry-requires-2 c =
-    carrying_joined c.args.words.now c.args.halves.now c.args.bytes.now c.args.clock.now c.requires c.holds.ensures c.if-holds.false c.if-words-count.false c.start-end.ensures c.if-words-end.false (omega arith) (omega arith) c.insert.ensures c.clock_in-c.ensures c.request-n-2.ensures c.request-n-2.auto.list
+    carrying_joined c.args.words.now c.args.halves.now c.args.bytes.now c.args.clock.now c.requires c.holds.ensures c.if-holds.false c.if-words-count.false c.start-end.ensures c.if-words-end.false (omega arith) (omega arith) c.insert.ensures c.clock_in-c.ensures c.request-2.ensures c.request-2.auto.list
 
 pub returns : goal.returns
 returns c =
-    joined c.args.words.now c.args.halves.now c.args.bytes.now c.args.clock.now c.requires c.holds.ensures c.if-holds.false c.if-words-count.false c.start-end.ensures c.if-words-end.false (omega arith) (omega arith) c.insert.ensures c.clock_in-c.ensures c.request-n-2.ensures c.carry-2.ensures
+    joined c.args.words.now c.args.halves.now c.args.bytes.now c.args.clock.now c.requires c.holds.ensures c.if-holds.false c.if-words-count.false c.start-end.ensures c.if-words-end.false (omega arith) (omega arith) c.insert.ensures c.clock_in-c.ensures c.request-2.ensures c.carry-2.ensures

@@ -4,47 +4,48 @@ use Rattle.delivery.proofs.Drains.{out_empty}
 use Rattle.link_delivery.proofs.Turns.{summing, later_in}
 use Rattle.link_delivery.proofs.RawTurns.{raw_none, raw_next, raw_room, raw_more, raw_ends}
 use Rattle.link_delivery.proofs.drain_raw.Goals as goal
-use Rattle.link_delivery.proofs.drain_raw.Goals.{else-drain-test, then-drain-test+then-number-remote}
+use Rattle.link_delivery.proofs.drain_raw.Goals.{else-loop-i-test, then-loop-i-test+then-number-remote}
 
 pub start-start-requires : goal.start-start-requires
 start-start-requires c = summing c.args.words.now c.args.halves.now c.args.bytes.now c.requires.draining
 
-pub drain-init : goal.drain-init
-drain-init c =
-    raw_none c.args.t c.args.words.now c.args.halves.now c.args.bytes.now c.requires c.start-start.ensures
+pub loop-i-init : goal.loop-i-init
+loop-i-init c = record { raw = raw_none c.args.s.turn c.args.words.now c.args.halves.now c.args.bytes.now c.requires c.start-start.ensures; whole = refl }
 
 pub overflow_add-remote : goal.overflow_add-remote
-overflow_add-remote c = omega (arith, raw_next c.drain.invariant c.drain-test.true)
+overflow_add-remote c = omega (arith, raw_next c.loop-i.invariant.raw c.loop-i-test.true)
 
 pub overflow_add-generation : goal.overflow_add-generation
-overflow_add-generation c = omega (arith, (raw_room c.drain.invariant c.drain-test.true c.size-len.ensures).slow)
+overflow_add-generation c = omega (arith, (raw_room c.loop-i.invariant.raw c.loop-i-test.true c.size-len.ensures).slow)
 
-pub hand_over-m-requires : goal.hand_over-m-requires
-hand_over-m-requires c =
-    let r = raw_room c.drain.invariant c.drain-test.true c.size-len.ensures in
+pub hand_over-events-requires : goal.hand_over-events-requires
+hand_over-events-requires c =
+    let r = raw_room c.loop-i.invariant.raw c.loop-i-test.true c.size-len.ensures in
     (r.reaches, r.room, r.bytes)
 
-pub overflow_add-a : goal.overflow_add-a
-overflow_add-a c =
-    let r = raw_room c.drain.invariant c.drain-test.true c.size-len.ensures in
-    omega (arith, r.bytes, c.drain.invariant.delivery, c.well_formed, c.ranges)
+pub overflow_add-at : goal.overflow_add-at
+overflow_add-at c =
+    let r = raw_room c.loop-i.invariant.raw c.loop-i-test.true c.size-len.ensures in
+    omega (arith, r.bytes, c.loop-i.invariant.raw.delivery, c.well_formed, c.ranges)
 
 pub overflow_add-start : goal.overflow_add-start
-overflow_add-start c = omega (arith, (raw_room c.drain.invariant c.drain-test.true c.size-len.ensures).short)
+overflow_add-start c = omega (arith, (raw_room c.loop-i.invariant.raw c.loop-i-test.true c.size-len.ensures).short)
 
-pub drain-preserved : goal.drain-preserved
-drain-preserved c =
-    let g = c.hand_over-m in
-    raw_more c.drain.invariant c.drain-test.true c.size-len.ensures c.if-number-remote.false refl
-    g.ensures g.auto.list g.auto.delivery
+pub loop-i-preserved : goal.loop-i-preserved
+loop-i-preserved c =
+    let g = c.hand_over-events in
+    record {
+      raw = raw_more c.loop-i.invariant.raw c.loop-i-test.true c.size-len.ensures c.if-number-remote.false refl g.ensures g.auto.list g.auto.delivery;
+      whole = c.loop-i.invariant.whole;
+    }
 
 pub returns : goal.returns
 returns c =
-    let v = c.drain.invariant in
+    let v = c.loop-i.invariant.raw in
     let y = v.turns c.args.status c.requires.there in
     raw_ends v c.requires.there c.reach-turn.ensures
-    (elim c.drain-test.branch [
-      | else-drain-test w ↦ out_empty y.turns w.drain-test.false
-      | then-drain-test+then-number-remote w ↦ later_in y w.drain-test.true w.if-number-remote.true
+    (elim c.loop-i-test.branch [
+      | else-loop-i-test w ↦ rw (w.taken-is, c.loop-i.invariant.whole) (out_empty y.turns w.loop-i-test.false)
+      | then-loop-i-test+then-number-remote w ↦ rw w.taken-is (later_in y w.loop-i-test.true w.if-number-remote.true)
     ])
     c.leave.ensures
