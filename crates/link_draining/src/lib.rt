@@ -16,7 +16,7 @@ ghost use Rattle.link_draining.specs.Endings.{ended_of};
 
 use delivery::{Step, Turn};
 use parts::{Bytes, Halves, Words};
-use rules::{Clock, HostStatus, Refusal};
+use rules::{Clock, EventCode, HostStatus, Refusal};
 
 // The count of events at a call's end, and the refusal that ended it.
 #[derive(Clone, Copy)]
@@ -201,7 +201,9 @@ pub fn carry(
     requires { (Carrying step.turn (waiting_in words.old) from (opened_of (parts words.old halves.old bytes.old clock.old)) list.old step.events delivery.old step.at outbound.old queue.old) × (good_codes (codes_in halves.old bytes.old) ≡ true) }
     ensures { Carries status step.turn (waiting_in words.old) from (opened_of (parts words.old halves.old bytes.old clock.old)) list.old step.events delivery.old step.at outbound.old queue.old (ended_of (opened_of (parts words.new halves.new bytes.new clock.new)) result) list.new delivery.new outbound.new queue.new }
 {
-    let d = link_delivery::drain(step, words, halves, bytes, from, queue, status, list, delivery);
+    let d = link_delivery::drain(
+        step, words, halves, bytes, from, queue, status, list, delivery,
+    );
     let turn = d.step.turn;
     let events = d.step.events;
     match d.stop {

@@ -13,8 +13,8 @@ ghost use Rattle.numbers.specs.Seats.{in_use, seat_of, step};
 ghost use Rattle.parts.specs.Parts.{section, numbers_in};
 ghost use Rattle.link_numbers.specs.Sets.{Set, Lies, firsts, Rising, Becomes, Releases};
 
-use rules::EventCode;
 use parts::Words;
+use rules::EventCode;
 
 // ---- asked
 

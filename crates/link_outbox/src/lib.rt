@@ -15,9 +15,9 @@ ghost use Rattle.outbox.specs.Steps.{Room, Replays};
 ghost use Rattle.link_outbox.specs.Steps.{Joins, Marks, Frees, Drops, Shifted, Front, freed, Sends};
 ghost use Rattle.link_outbox.specs.Tests.{fall, falls, Steps, low, stayer, Bounded, Sought};
 
-use rules::EventCode;
 use outbox::Place;
 use parts::{Bytes, Halves, Words, size, wide};
+use rules::EventCode;
 
 // ---- whether they are such as calls leave
 
@@ -208,7 +208,14 @@ fn send_if(goes: bool, number: u32, len: u32, list: &mut [u64], n: usize, from: 
     ensures { Sends goes number len from list.old n list.new result }
 {
     if goes {
-        events::emit(list, n, EventCode::SendData, number as u64, from as u64, len as u64);
+        events::emit(
+            list,
+            n,
+            EventCode::SendData,
+            number as u64,
+            from as u64,
+            len as u64,
+        );
         return n + 1;
     }
     n

@@ -206,7 +206,14 @@ fn send_if(goes: bool, u: Unacked, list: &mut [u64], n: usize, at: usize) -> usi
     ensures { SentIf goes u at list.old n list.new result }
 {
     if goes {
-        events::emit(list, n, EventCode::SendData, u.number as u64, at as u64, u.len as u64);
+        events::emit(
+            list,
+            n,
+            EventCode::SendData,
+            u.number as u64,
+            at as u64,
+            u.len as u64,
+        );
         return n + 1;
     }
     n

@@ -122,7 +122,12 @@ fn send_reject(s: SessionState, list: &mut [u64], outbound: &mut [u8]) -> Return
 {
     let bytes = s.reject.bytes;
     let len = s.reject.len;
-    match join(s, outbound, Disposition::OutboundReject as u8, &bytes[..len]) {
+    match join(
+        s,
+        outbound,
+        Disposition::OutboundReject as u8,
+        &bytes[..len],
+    ) {
         Ok(r) => done(r, list),
         Err(x) => session::refused(s, x),
     }

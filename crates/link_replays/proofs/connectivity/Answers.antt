@@ -14,4 +14,3 @@ goes-requires c = ready_for (parts c.args.words.now c.args.halves.now c.args.byt
 pub returns-in-Err : goal.returns-in-Err
 returns-in-Err c =
     turned (parts c.args.words.now c.args.halves.now c.args.bytes.now c.args.clock.now) c.args.list.now c.args.event c.args.time c.args.force c.in-Err.x (c.enters.ensures c.args.clock.now) c.in-Err.is c.refusal.ensures
-

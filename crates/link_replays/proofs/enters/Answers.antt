@@ -19,4 +19,3 @@ pub returns-then-not-sound : goal.returns-then-not-sound
 returns-then-not-sound c = λ t.
     unsound (parts c.args.words.now c.args.halves.now c.args.bytes.now t) c.if-list-lt-EVENT_WORDS.false
     (first c.in_ok-read.read c.in_ok-read.ensures) (last c.in_ok-read.read c.in_ok-read.ensures) (sym (c.sound.ensures t).is ∙ c.if-not-sound.true)
-

@@ -16,4 +16,3 @@ returns-in_err-kind c = λ t.
 
 pub returns-then-not-sound : goal.returns-then-not-sound
 returns-then-not-sound c = λ t. unsound _ c.if-list-lt-EVENT_WORDS.false (code-small c.in_ok-kind.kind c.in_ok-kind.ensures) (sym (c.sound.ensures t).is ∙ c.if-not-sound.true)
-
