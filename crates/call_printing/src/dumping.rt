@@ -5,10 +5,10 @@ use numbers::Numbers;
 use outbox::Outbox;
 use peer_session::{SessionState, Stage, TerminalHandoff};
 use queue::Queue;
-use rules::{Clock, ReceiveMode, Setup, Terms};
+use rules::{Clock, Setup, Terms};
 use scripts::print_field;
 
-// The numbers of a setup and of a mode are no From: the types are of the crate `rules`, and the numbers of this print alone.
+// No From: the type is of the crate `rules`, and the numbers are of this print alone.
 fn setup_number(setup: Setup) -> u64 {
     match setup {
         Setup::None => 0,
@@ -29,16 +29,6 @@ fn terms_of(setup: Setup) -> Terms {
     }
 }
 
-fn mode_number(mode: ReceiveMode) -> u64 {
-    match mode {
-        ReceiveMode::Raw => 0,
-        ReceiveMode::Proposal => 1,
-        ReceiveMode::Channel => 2,
-        ReceiveMode::Rejection => 3,
-        ReceiveMode::Retiring => 4,
-    }
-}
-
 fn print_flag(out: &mut Output, flag: bool) {
     print_field(out, u64::from(flag));
 }
@@ -49,7 +39,7 @@ fn print_stage(out: &mut Output, g: Stage) {
     print_field(out, setup_number(g.setup));
     print_field(out, u64::from(t.number));
     print_flag(out, t.initiator);
-    print_field(out, mode_number(g.mode));
+    print_field(out, g.mode as u64);
     print_flag(out, g.failed);
     out.print_byte(b'\n');
 }

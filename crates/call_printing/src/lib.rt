@@ -22,7 +22,7 @@ fn print_answer(out: &mut Output, a: Answer, events: usize) {
     match a {
         Answer::Refused(x) => {
             out.print_bytes(b" !");
-            scripts::print_count(out, answers::refusal_number(x), events);
+            scripts::print_count(out, u64::from(x), events);
         }
         Answer::Prepared(c) => scripts::print_commit(out, c),
         _ => scripts::print_count(out, answers::answer_value(a), events),

@@ -61,23 +61,18 @@ ready-known status mode h = le-ltb 4 mode h
 
 -- ---- modes
 
-pub mode_raw : (n : ℕ) → n ≡ 0 → Raw ≡ mode_of n
-mode_raw n e = rw (eq-eqb n 0 e)
+-- each mode has a code
+pub record Named (m : ReceiveMode) : Type 0 where
+  pub code : ℕ
+  pub small : code ≤ 4
+  pub is : m ≡ mode_of code
 
-module _ (n : ℕ) (a : n ≡ 0 → ⊥) where
-  pub mode_proposal : n ≡ 1 → Proposal ≡ mode_of n
-  mode_proposal e = rw (ne_eqb n 0 a, eq-eqb n 1 e)
-
-  module _ (b : n ≡ 1 → ⊥) where
-    pub mode_channel : n ≡ 2 → Channel ≡ mode_of n
-    mode_channel e = rw (ne_eqb n 0 a, ne_eqb n 1 b, eq-eqb n 2 e)
-
-    module _ (c : n ≡ 2 → ⊥) where
-      pub mode_rejection : n ≡ 3 → Rejection ≡ mode_of n
-      mode_rejection e = rw (ne_eqb n 0 a, ne_eqb n 1 b, ne_eqb n 2 c, eq-eqb n 3 e)
-
-      pub mode_retiring : (n ≡ 3 → ⊥) → Retiring ≡ mode_of n
-      mode_retiring d = rw (ne_eqb n 0 a, ne_eqb n 1 b, ne_eqb n 2 c, ne_eqb n 3 d)
+pub named : (m : ReceiveMode) → Named m
+named Raw = record { code = 0; small = omega arith; is = refl }
+named Proposal = record { code = 1; small = omega arith; is = refl }
+named Channel = record { code = 2; small = omega arith; is = refl }
+named Rejection = record { code = 3; small = omega arith; is = refl }
+named Retiring = record { code = 4; small = omega arith; is = refl }
 
 -- ---- nothing in a rising queue is obsolete
 

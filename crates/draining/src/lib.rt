@@ -107,7 +107,7 @@ pub fn fail(s: SessionState, list: &mut [u64], n: usize, queue: &mut [u8], x: Re
     ensures { Fails x s list.old n queue.old result list.new queue.new }
 {
     let emptied = peer_session::broken(s, queue);
-    let number = answers::refusal_number(x);
+    let number = u64::from(x);
     events::emit(list, n, EventCode::Failure, number, 0, 0);
     Ended {
         session: emptied,

@@ -12,7 +12,7 @@ ghost use Rattle.link_acks.specs.Acks.{AckReady, AckEnters, outside, BeyondIn, r
 
 use parts::{Bytes, Halves, LinkAnswer, Words};
 use peer_session::SessionState;
-use rules::{Answer, Refusal};
+use rules::{Answer, Disposition, ReceiveMode, Refusal};
 
 // The tests of an ack, in their order.
 fn ack_enters(
@@ -81,7 +81,7 @@ fn handoff_flag(before: u8, sent: u8, handoff: u64, number: u64) -> u8
 fn complete(disposition: u8, left: u64) -> bool
     ensures { result ≡ (eqb disposition 4 && eqb left 0) }
 {
-    if disposition == 4 {
+    if disposition == Disposition::OutboundReject as u8 {
         return left == 0;
     }
     false
@@ -103,7 +103,7 @@ fn acknowledged(
     let before = words[parts::UNACKED];
     let generation = halves[parts::GENERATION];
     let disposition = bytes[parts::DISPOSITION];
-    let raw = bytes[parts::MODE] == 0;
+    let raw = bytes[parts::MODE] == ReceiveMode::Raw as u8;
     let flag = handoff_flag(
         bytes[parts::HANDOFF_ACKNOWLEDGED],
         bytes[parts::HANDOFF_SENT],
@@ -117,7 +117,7 @@ fn acknowledged(
     let k = link_codes::clock_in(halves, clock);
     let n = events::request(k, list, 0);
     let m = acks::notify_acknowledged(complete(disposition, left), raw, list, n, number);
-    link_codes::plain(2, 1, m)
+    link_codes::flag(true, m)
 }
 
 // An ack out of range: nothing is acknowledged, the queue is emptied, and code 7 is listed.

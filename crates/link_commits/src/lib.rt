@@ -100,7 +100,7 @@ fn finish(
     halves[parts::PERSISTED_GENERATION] = after.persisted;
     let released = release_by(words, halves, bytes, list, commit);
     let n = commits::notify_committed(persisted, list, released);
-    link_codes::plain(0, 0, n)
+    link_codes::done(n)
 }
 
 // The record is what `prepare` answered, so what came after it stays; persisted says whether the host's write succeeded.

@@ -36,7 +36,7 @@ fn ready(
     let e = link_draining::carry(
         words, halves, bytes, clock, step, 0, status, list, delivery, outbound, queue,
     );
-    link_codes::plain(0, 0, e.events)
+    link_codes::done(e.events)
 }
 
 // What takes messages changed, and is ready.

@@ -57,7 +57,7 @@ fn drain_each(
         {
             return leave(words, k, step, i, None);
         }
-        let len = parts::size(halves[parts::QUEUED_LENS + i]);
+        let len = halves[parts::QUEUED_LENS + i] as usize;
         let body = stores::part(store, start, len);
         match delivery::deliver(step, list, delivery, Frame { number, kind, body }) {
             Ok(next) => step = next,
@@ -138,7 +138,7 @@ fn drain_raw(
             taken = i;
             break;
         }
-        let len = parts::size(halves[parts::QUEUED_LENS + i]);
+        let len = halves[parts::QUEUED_LENS + i] as usize;
         generation += 1;
         events = hand_over(
             list, events, delivery, at, number, store, start, len, generation, persisted,

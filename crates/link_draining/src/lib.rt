@@ -16,7 +16,7 @@ ghost use Rattle.link_draining.specs.Endings.{ended_of};
 
 use delivery::{Step, Turn};
 use parts::{Bytes, Halves, Words};
-use rules::{Clock, EventCode, HostStatus, Refusal};
+use rules::{Clock, EventCode, HostStatus, ReceiveMode, Refusal};
 
 // The count of events at a call's end, and the refusal that ended it.
 #[derive(Clone, Copy)]
@@ -133,7 +133,7 @@ fn finish(
 fn mark_failed(bytes: &mut Bytes)
     ensures { bytes.new ≡ failed_bytes bytes.old }
 {
-    if bytes[parts::MODE] == 2 {
+    if bytes[parts::MODE] == ReceiveMode::Channel as u8 {
         bytes[parts::FAILED] = 1;
     }
 }
@@ -154,7 +154,7 @@ pub fn fail(
 {
     link_queue::clear(words, halves, bytes, queue);
     mark_failed(bytes);
-    let number = answers::refusal_number(x);
+    let number = u64::from(x);
     events::emit(list, n, EventCode::Failure, number, 0, 0);
     Ending {
         events: n + 1,

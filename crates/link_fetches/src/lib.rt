@@ -25,7 +25,7 @@ fn place_answer(found: Option<Place>) -> LinkAnswer
             };
             link_codes::answer_of(held, 0)
         }
-        None => link_codes::plain(5, 0, 0),
+        None => link_codes::answer_of(Answer::NotHeld, 0),
     }
 }
 

@@ -14,7 +14,7 @@ ghost use Rattle.parts.specs.Parts.{parts, at, flag, section, clock_in, outbox_i
 ghost use Rattle.parts.specs.Driven.{Driven};
 ghost use Rattle.link_handoffs.specs.Commands.{Commanding, Enters, Starts, ComesIn, AsksIn, HoldingIn};
 
-use parts::{Bytes, Halves, LinkAnswer, Words};
+use parts::{Bytes, Halves, LinkAnswer, SetupCode, Words};
 use peer_session::SessionState;
 use restores::Handoff;
 use rules::{Refusal, Terms};
@@ -60,7 +60,7 @@ fn starting(halves: &mut Halves, bytes: &mut Bytes, restoring: bool)
         number: 0,
         initiator: false,
     };
-    link_setup::stage(halves, bytes, disposition, 2, terms);
+    link_setup::stage(halves, bytes, disposition, SetupCode::Started as u8, terms);
 }
 
 // Done, with a commit request where something is left to commit.
@@ -70,7 +70,7 @@ fn done(halves: &Halves, clock: &f64, list: &mut [u64]) -> LinkAnswer
 {
     let k = link_codes::clock_in(halves, clock);
     let n = events::request(k, list, 0);
-    link_codes::plain(0, 0, n)
+    link_codes::done(n)
 }
 
 // ---- the handoff that is there

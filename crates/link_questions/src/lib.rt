@@ -11,7 +11,7 @@ ghost use Rattle.session.specs.Promise.{terms_in_session};
 ghost use Rattle.parts.specs.Parts.{parts, opened_of};
 
 use parts::{Bytes, Halves, Words};
-use rules::{Setup, Terms};
+use rules::{Disposition, Setup, Terms};
 
 // Whether something is left to commit.
 pub fn dirty(words: &Words, halves: &Halves, bytes: &Bytes, clock: &f64) -> bool
@@ -25,12 +25,7 @@ pub fn accepted(words: &Words, halves: &Halves, bytes: &Bytes, clock: &f64) -> b
     ensures { (o q : Bytes) → result ≡ accepted (state_of (opened_of (parts words.now halves.now bytes.now clock.now)) o q) }
 {
     let setup = link_codes::setup_in(halves, bytes);
-    match setup {
-        Setup::None => false,
-        Setup::Waiting(_) => true,
-        Setup::Started => true,
-        Setup::Retired => false,
-    }
+    matches!(setup, Setup::Waiting(_) | Setup::Started)
 }
 
 // Whether the setup is retired.
@@ -38,12 +33,7 @@ pub fn retired(words: &Words, halves: &Halves, bytes: &Bytes, clock: &f64) -> bo
     ensures { (o q : Bytes) → result ≡ is_retired (state_of (opened_of (parts words.now halves.now bytes.now clock.now)) o q) }
 {
     let setup = link_codes::setup_in(halves, bytes);
-    match setup {
-        Setup::None => false,
-        Setup::Waiting(_) => false,
-        Setup::Started => false,
-        Setup::Retired => true,
-    }
+    matches!(setup, Setup::Retired)
 }
 
 // The terms of a session that waits.
@@ -61,8 +51,6 @@ pub fn channel_terms(words: &Words, halves: &Halves, bytes: &Bytes, clock: &f64)
 pub fn rejection_complete(words: &Words, halves: &Halves, bytes: &Bytes, clock: &f64) -> bool
     ensures { (o q : Bytes) → result ≡ rejection_complete (state_of (opened_of (parts words.now halves.now bytes.now clock.now)) o q) }
 {
-    if link_codes::disposition_in(halves, bytes) == 4 {
-        return words[parts::UNACKED] == 0;
-    }
-    false
+    link_codes::disposition_in(halves, bytes) == Disposition::OutboundReject as u8
+        && words[parts::UNACKED] == 0
 }

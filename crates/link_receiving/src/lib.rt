@@ -23,7 +23,7 @@ fn answered(e: Ending) -> LinkAnswer
     ensures { result ≡ answer_of (told (Flag true) e.stop) e.events }
 {
     match e.stop {
-        None => link_codes::plain(2, 1, e.events),
+        None => link_codes::flag(true, e.events),
         Some(x) => link_codes::answer_of(Answer::Refused(x), e.events),
     }
 }

@@ -48,17 +48,17 @@ fn goes(
     ensures { Driven (parts words.now halves.now bytes.now clock.old) (parts words.now halves.now bytes.now clock.new) result (λ s y. CalledWithList (connects (connectivity_number event) time force) s list.old y list.new) }
 {
     if !replays::resends(event) {
-        return link_codes::plain(2, 1, 0);
+        return link_codes::flag(true, 0);
     }
     if words[parts::UNACKED] == 0 {
-        return link_codes::plain(2, 1, 0);
+        return link_codes::flag(true, 0);
     }
     if replays::too_soon(time, *clock, force) {
-        return link_codes::plain(2, 0, 0);
+        return link_codes::flag(false, 0);
     }
     let n = link_outbox::replay(words, halves, bytes, list, 0);
     *clock = time;
-    link_codes::plain(2, 1, n)
+    link_codes::flag(true, n)
 }
 
 // The answer is false where the clock holds a replay back.

@@ -57,9 +57,9 @@ fn data_sent(
     if own {
         bytes[parts::HANDOFF_SENT] = 1;
         events::emit(list, 0, EventCode::CommitRequested, 0, 0, 0);
-        return link_codes::plain(0, 0, 1);
+        return link_codes::done(1);
     }
-    link_codes::plain(0, 0, 0)
+    link_codes::done(0)
 }
 
 // Whether a number would be a 513th retry.
@@ -81,13 +81,13 @@ fn ack_sent(words: &mut Words, number: u64, accepted: bool) -> LinkAnswer
 {
     if accepted {
         link_numbers::take_out(words, parts::RETRY_NUMBERS, parts::RETRIES, number);
-        return link_codes::plain(0, 0, 0);
+        return link_codes::done(0);
     }
     if retries_full(words, number) {
         return link_codes::refusal(Refusal::RetriesFull);
     }
     link_numbers::put(words, parts::RETRY_NUMBERS, parts::RETRIES, number);
-    link_codes::plain(0, 0, 0)
+    link_codes::done(0)
 }
 
 // A report past its tests.
@@ -105,7 +105,7 @@ fn reported(
 {
     match kind {
         FrameKind::Data if accepted => data_sent(words, halves, bytes, list, number),
-        FrameKind::Data => link_codes::plain(0, 0, 0),
+        FrameKind::Data => link_codes::done(0),
         FrameKind::Ack => ack_sent(words, number, accepted),
     }
 }
@@ -149,5 +149,5 @@ pub fn keepalive(
     }
     events::emit(list, 0, EventCode::Keepalive, 0, 0, 0);
     let n = link_numbers::list_all(words, parts::RETRY_NUMBERS, parts::RETRIES, list, 1);
-    link_codes::plain(2, 1, n)
+    link_codes::flag(true, n)
 }

@@ -147,7 +147,7 @@ fn goes(
         return link_codes::refusal(Refusal::OtherHandoff);
     }
     hand(words, bytes, given, body);
-    link_codes::plain(0, 0, 0)
+    link_codes::done(0)
 }
 
 // A session takes a record, whose messages come as three lent slices, and a terminal handoff, whose body is lent.

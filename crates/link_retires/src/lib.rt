@@ -9,9 +9,9 @@ ghost use Rattle.parts.specs.Parts.{parts, outbox_in};
 ghost use Rattle.parts.specs.Driven.{Driven};
 ghost use Rattle.link_retires.specs.Steps.{Retiring, RetiresIn, ForgetsIn};
 
-use parts::{Bytes, Halves, LinkAnswer, Words};
+use parts::{Bytes, Halves, LinkAnswer, SetupCode, Words};
 use peer_session::SessionState;
-use rules::{Refusal, Terms};
+use rules::{Disposition, Refusal, Terms};
 
 // No handoff, and an empty queue.
 fn retired(words: &mut Words, halves: &mut Halves, bytes: &mut Bytes, queue: &mut [u8])
@@ -26,7 +26,7 @@ fn retired(words: &mut Words, halves: &mut Halves, bytes: &mut Bytes, queue: &mu
         number: 0,
         initiator: false,
     };
-    link_setup::stage(halves, bytes, disposition, 3, terms);
+    link_setup::stage(halves, bytes, disposition, SetupCode::Retired as u8, terms);
     bytes[parts::HANDOFF_PRESENT] = 0;
 }
 
@@ -52,7 +52,7 @@ fn retains(retain: bool, disposition: u8) -> bool
     if !retain {
         return false;
     }
-    disposition == 4
+    disposition == Disposition::OutboundReject as u8
 }
 
 // The session ends. The answer is whether its rejection is retained.
@@ -79,8 +79,8 @@ pub fn retire(
     let kept = retains(retain, bytes[parts::DISPOSITION]);
     retired(words, halves, bytes, queue);
     if kept {
-        return link_codes::plain(2, 1, 0);
+        return link_codes::flag(true, 0);
     }
     forget(words, halves, bytes, outbound);
-    link_codes::plain(2, 0, 0)
+    link_codes::flag(false, 0)
 }

@@ -84,7 +84,7 @@ fn goes(
             halves[parts::GENERATION] = generation + 1;
             let k = link_codes::clock_in(halves, clock);
             let n = events::request(k, list, 0);
-            link_codes::plain(1, number, n)
+            link_codes::number(number, n)
         }
         Err(x) => link_codes::refusal(x),
     }

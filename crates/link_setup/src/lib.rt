@@ -8,9 +8,9 @@ ghost use Rattle.parts.specs.Parts.{parts};
 ghost use Rattle.parts.specs.Driven.{Driven};
 ghost use Rattle.link_setup.specs.Steps.{Stages, Accepting, AcceptEnters, Rejecting, RejectEnters};
 
-use parts::{Bytes, Halves, LinkAnswer, Words};
+use parts::{Bytes, Halves, LinkAnswer, SetupCode, Words};
 use peer_session::SessionState;
-use rules::{Refusal, Terms};
+use rules::{Disposition, Refusal, Terms};
 
 // ---- the stage
 
@@ -42,11 +42,11 @@ pub fn prepare_channel(
     let setup = bytes[parts::SETUP];
     if setup == 0 {
         let disposition = bytes[parts::DISPOSITION];
-        stage(halves, bytes, disposition, 1, terms);
-        return link_codes::plain(0, 0, 0);
+        stage(halves, bytes, disposition, SetupCode::Waiting as u8, terms);
+        return link_codes::done(0);
     }
     if setup == 1 {
-        return link_codes::plain(0, 0, 0);
+        return link_codes::done(0);
     }
     if setup == 2 {
         return link_codes::refusal(Refusal::ChannelStarted);
@@ -75,7 +75,7 @@ fn accept_enters(
     if SessionState::GENERATION_LIMIT <= halves[parts::GENERATION] {
         return Err(Refusal::GenerationsExhausted);
     }
-    if bytes[parts::SETUP] != 0 {
+    if bytes[parts::SETUP] != SetupCode::None as u8 {
         return Err(Refusal::AlreadyAccepted);
     }
     if !terms.initiator {
@@ -104,8 +104,14 @@ fn propose(
     match link_sending::allocate(words, halves, bytes, outbound, body) {
         Ok(()) => {
             halves[parts::GENERATION] = generation + 1;
-            stage(halves, bytes, 1, 1, terms);
-            link_codes::plain(0, 0, 0)
+            stage(
+                halves,
+                bytes,
+                Disposition::Active as u8,
+                SetupCode::Waiting as u8,
+                terms,
+            );
+            link_codes::done(0)
         }
         Err(x) => link_codes::refusal(x),
     }
@@ -127,8 +133,14 @@ fn accepted(
     if terms.initiator {
         return propose(words, halves, bytes, clock, outbound, terms, body);
     }
-    stage(halves, bytes, 1, 1, terms);
-    link_codes::plain(0, 0, 0)
+    stage(
+        halves,
+        bytes,
+        Disposition::Active as u8,
+        SetupCode::Waiting as u8,
+        terms,
+    );
+    link_codes::done(0)
 }
 
 // A proposal is accepted, or made. It requests no commit.
@@ -195,10 +207,10 @@ fn send_reject(
     match link_sending::allocate(words, halves, bytes, outbound, &body[..len]) {
         Ok(()) => {
             halves[parts::GENERATION] = generation + 1;
-            bytes[parts::DISPOSITION] = 4;
+            bytes[parts::DISPOSITION] = Disposition::OutboundReject as u8;
             let k = link_codes::clock_in(halves, clock);
             let n = events::request(k, list, 0);
-            link_codes::plain(0, 0, n)
+            link_codes::done(n)
         }
         Err(x) => link_codes::refusal(x),
     }

@@ -172,7 +172,7 @@ fn starts_it(
     starts::fill(outbound, bodies, n);
     let end = queue.len();
     stores::clear(queue, 0, end);
-    link_codes::plain(0, 0, 0)
+    link_codes::done(0)
 }
 
 // A new session from a record whose messages come as three lent slices: numbers, lengths, and the bodies one after the other. A refused one leaves the

@@ -7,7 +7,7 @@ fn print_answer(out: &mut Output, a: Answer, events: usize) {
     match a {
         Answer::Refused(x) => {
             out.print_bytes(b" !");
-            scripts::print_field(out, answers::refusal_number(x));
+            scripts::print_field(out, u64::from(x));
         }
         Answer::Prepared(c) => scripts::print_commit(out, c),
         _ => scripts::print_count(out, answers::message_number(a), events),

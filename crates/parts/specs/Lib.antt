@@ -4,3 +4,4 @@ pub mod Codes
 pub mod Parts
 pub mod Frames
 pub mod Driven
+pub mod Kinds

@@ -3,6 +3,7 @@
 #![tactic(auto)]
 
 ghost use Rattle.std.specs.Prelude.{◌≡◌};
+ghost use Rattle.parts.specs.Kinds.{kind_number};
 
 // ---- words
 
@@ -108,8 +109,38 @@ pub struct StageCodes {
     pub failed: bool,
 }
 
-// A call's answer: refusal is 0 where there is none; kind 0 done, 1 a number, 2 a flag, 3 a commit record (generation, outbound, remote), 4 a held body
-// (start, length), 5 not held, 6 refused; then its values, 0 where it has none.
+// The setup's byte.
+#[derive(Clone, Copy, Debug, PartialEq, Eq)]
+pub enum SetupCode {
+    None = 0,
+    Waiting = 1,
+    Started = 2,
+    Retired = 3,
+}
+
+// What an answer is.
+#[derive(Clone, Copy, Debug, PartialEq, Eq)]
+pub enum AnswerKind {
+    Done = 0,
+    Number = 1,
+    Flag = 2,
+    // a commit record: generation, outbound, remote
+    Prepared = 3,
+    // start and length of a held body
+    Held = 4,
+    NotHeld = 5,
+    Refused = 6,
+}
+
+impl From<AnswerKind> for u64 {
+    ghost from_gives = { λ k n. n ≡ kind_number k };
+
+    fn from(kind: AnswerKind) -> u64 {
+        kind as u64
+    }
+}
+
+// A call's answer: refusal is 0 where there is none; then the number of its `AnswerKind`, and its values, 0 where it has none.
 #[repr(C)]
 #[derive(Clone, Copy)]
 pub struct LinkAnswer {
@@ -119,18 +150,4 @@ pub struct LinkAnswer {
     pub second: u64,
     pub third: u64,
     pub events: usize,
-}
-
-// ---- a half as a word, and as a size: a cast of an element asks nothing where a function makes it
-
-pub fn wide(x: u32) -> u64
-    ensures { result ≡ x }
-{
-    x as u64
-}
-
-pub fn size(x: u32) -> usize
-    ensures { result ≡ x }
-{
-    x as usize
 }

@@ -11,7 +11,7 @@ ghost use Rattle.peer_session.specs.View.{state_of};
 ghost use Rattle.session.specs.Promise.{Turned, terms_in_session};
 
 use peer_session::SessionState;
-use rules::{Answer, Refusal, Setup, Terms};
+use rules::{Answer, Disposition, Refusal, Setup, Terms};
 
 // What a call hands back: the session, the answer, and how many events it listed.
 #[derive(Clone, Copy)]
@@ -51,27 +51,13 @@ pub fn dirty(s: SessionState) -> bool
 pub fn accepted(s: SessionState) -> bool
     ensures { (o q : Bytes) → result ≡ accepted (state_of s o q) }
 {
-    let g = s.stage;
-    let setup = g.setup;
-    match setup {
-        Setup::None => false,
-        Setup::Waiting(_) => true,
-        Setup::Started => true,
-        Setup::Retired => false,
-    }
+    matches!(s.stage.setup, Setup::Waiting(_) | Setup::Started)
 }
 
 pub fn retired(s: SessionState) -> bool
     ensures { (o q : Bytes) → result ≡ is_retired (state_of s o q) }
 {
-    let g = s.stage;
-    let setup = g.setup;
-    match setup {
-        Setup::None => false,
-        Setup::Waiting(_) => false,
-        Setup::Started => false,
-        Setup::Retired => true,
-    }
+    matches!(s.stage.setup, Setup::Retired)
 }
 
 // The terms of a session that waits.
@@ -87,8 +73,5 @@ pub fn channel_terms(s: SessionState) -> Option<Terms>
 pub fn rejection_complete(s: SessionState) -> bool
     ensures { (o q : Bytes) → result ≡ rejection_complete (state_of s o q) }
 {
-    if s.stage.disposition == 4 {
-        return s.outbox.count == 0;
-    }
-    false
+    s.stage.disposition == Disposition::OutboundReject as u8 && s.outbox.count == 0
 }

@@ -14,4 +14,4 @@ notify_committed-n-requires c =
 
 pub returns : goal.returns
 returns c =
-    went c.args.words.now c.args.halves.now c.args.bytes.now c.args.clock.now c.args.list.now c.args.commit c.args.persisted c.requires c.persisted_by-after.result (λ s e. c.persisted_by-after.ensures s (e ∙ sym c.clock_in-k.ensures)) _ _ _ _ _ c.release_by-released.result c.notify_committed-n.result c.release_by-released.ensures c.notify_committed-n.ensures c.plain.ensures
+    went c.args.words.now c.args.halves.now c.args.bytes.now c.args.clock.now c.args.list.now c.args.commit c.args.persisted c.requires c.persisted_by-after.result (λ s e. c.persisted_by-after.ensures s (e ∙ sym c.clock_in-k.ensures)) _ _ _ _ _ c.release_by-released.result c.notify_committed-n.result c.release_by-released.ensures c.notify_committed-n.ensures c.done.ensures

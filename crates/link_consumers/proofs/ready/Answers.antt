@@ -12,4 +12,4 @@ carry-e-requires c =
 
 pub returns : goal.returns
 returns c =
-    done c.args.status c.args.mode c.args.words.now c.args.halves.now c.args.bytes.now c.args.clock.now c.requires (omega arith) c.turn_of.ensures _ c.plain.ensures c.carry-e.ensures
+    done c.args.status c.args.mode c.args.words.now c.args.halves.now c.args.bytes.now c.args.clock.now c.requires (omega arith) c.turn_of.ensures _ c.done.ensures c.carry-e.ensures

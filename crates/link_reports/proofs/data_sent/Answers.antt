@@ -15,9 +15,9 @@ emit-requires c =
 pub returns-then-own : goal.returns-then-own
 returns-then-own c =
     its_own_frame c.args.words.now c.args.halves.now c.args.bytes.now c.args.list.now c.args.number 0 true c.requires refl refl _
-    c.mark_sent.ensures.flagged c.mark_sent.ensures.bytes (sym c.if-own.true ∙ c.own_frame-own.ensures) c.emit.ensures c.plain.ensures
+    c.mark_sent.ensures.flagged c.mark_sent.ensures.bytes (sym c.if-own.true ∙ c.own_frame-own.ensures) c.emit.ensures c.done.ensures
 
 pub returns : goal.returns
 returns c =
     other-frame c.args.words.now c.args.halves.now c.args.bytes.now c.args.list.now c.args.number 0 true c.requires refl refl _
-    c.mark_sent.ensures.flagged c.mark_sent.ensures.bytes (sym c.if-own.false ∙ c.own_frame-own.ensures) c.plain-2.ensures
+    c.mark_sent.ensures.flagged c.mark_sent.ensures.bytes (sym c.if-own.false ∙ c.own_frame-own.ensures) c.done-2.ensures

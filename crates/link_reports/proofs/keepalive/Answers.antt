@@ -22,4 +22,4 @@ pub returns : goal.returns
 returns c =
     told c.args.words.now c.args.halves.now c.args.bytes.now c.args.clock.now c.args.list.now c.if-list-lt-EVENT_WORDS.false
     (sym (c.sound.ensures c.args.clock.now).is ∙ c.if-not-sound.false) (c.sound.ensures c.args.clock.now).full
-    c.emit.ensures c.list_all-n.ensures.listed c.plain.ensures
+    c.emit.ensures c.list_all-n.ensures.listed c.flag.ensures

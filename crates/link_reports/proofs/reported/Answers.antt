@@ -11,7 +11,7 @@ data_sent-requires c =
 pub returns-in-Data-2 : goal.returns-in-Data-2
 returns-in-Data-2 c =
     unsent c.args.words.now c.args.halves.now c.args.bytes.now c.args.list.now c.args.number (frame_kind_number c.args.kind) c.args.accepted c.requires
-    (ap frame_kind_number c.in-Data-2.is) c.if-accepted.false c.plain.ensures
+    (ap frame_kind_number c.in-Data-2.is) c.if-accepted.false c.done.ensures
 
 pub ack_sent-requires : goal.ack_sent-requires
 ack_sent-requires c = (

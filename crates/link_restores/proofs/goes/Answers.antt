@@ -12,4 +12,4 @@ pub returns-then-not-agrees : goal.returns-then-not-agrees
 returns-then-not-agrees c = other-handoff c.args.«record» c.args.numbers.now c.args.lengths.now c.args.bodies.now c.args.given c.args.body.now c.args.words.now c.args.halves.now c.args.bytes.now c.args.clock.now c.args.outbound.now c.requires c.take.ensures (sym c.agrees.ensures ∙ c.if-not-agrees.true) c.refusal.ensures
 
 pub returns : goal.returns
-returns c = goes_in c.args.«record» c.args.numbers.now c.args.lengths.now c.args.bodies.now c.args.given c.args.body.now c.args.words.now c.args.halves.now c.args.bytes.now c.args.clock.now c.args.outbound.now c.requires c.take.ensures (sym c.agrees.ensures ∙ c.if-not-agrees.false) c.hand.ensures c.plain.ensures
+returns c = goes_in c.args.«record» c.args.numbers.now c.args.lengths.now c.args.bodies.now c.args.given c.args.body.now c.args.words.now c.args.halves.now c.args.bytes.now c.args.clock.now c.args.outbound.now c.requires c.take.ensures (sym c.agrees.ensures ∙ c.if-not-agrees.false) c.hand.ensures c.done.ensures

@@ -16,10 +16,10 @@ pub retired-requires : goal.retired-requires
 retired-requires c = record { checked = λ t. found-sound (c.sound.ensures t) (c.if-not-sound.false); room = c.if-queue-lt-QUEUE_BYTES.false }
 
 pub returns-then-kept : goal.returns-then-kept
-returns-then-kept c = keeps c.args.retain c.args.words.now c.args.halves.now c.args.bytes.now c.args.clock.now c.args.outbound.now c.args.queue.now c.if-outbound-lt-OUTBOUND_BYTES.false c.if-queue-lt-QUEUE_BYTES.false (found-sound (c.sound.ensures c.args.clock.now) (c.if-not-sound.false)) c.retired.ensures c.retains-kept.ensures c.if-kept.true c.plain.ensures
+returns-then-kept c = keeps c.args.retain c.args.words.now c.args.halves.now c.args.bytes.now c.args.clock.now c.args.outbound.now c.args.queue.now c.if-outbound-lt-OUTBOUND_BYTES.false c.if-queue-lt-QUEUE_BYTES.false (found-sound (c.sound.ensures c.args.clock.now) (c.if-not-sound.false)) c.retired.ensures c.retains-kept.ensures c.if-kept.true c.flag.ensures
 
 pub forget-requires : goal.forget-requires
 forget-requires c = left-exact c.args.retain c.args.words.now c.args.halves.now c.args.bytes.now c.args.clock.now c.args.outbound.now c.args.queue.now c.if-outbound-lt-OUTBOUND_BYTES.false c.if-queue-lt-QUEUE_BYTES.false (found-sound (c.sound.ensures c.args.clock.now) (c.if-not-sound.false)) c.retired.ensures
 
 pub returns : goal.returns
-returns c = forgets c.args.retain c.args.words.now c.args.halves.now c.args.bytes.now c.args.clock.now c.args.outbound.now c.args.queue.now c.if-outbound-lt-OUTBOUND_BYTES.false c.if-queue-lt-QUEUE_BYTES.false (found-sound (c.sound.ensures c.args.clock.now) (c.if-not-sound.false)) c.retired.ensures c.retains-kept.ensures c.if-kept.false c.forget.ensures c.plain-2.ensures
+returns c = forgets c.args.retain c.args.words.now c.args.halves.now c.args.bytes.now c.args.clock.now c.args.outbound.now c.args.queue.now c.if-outbound-lt-OUTBOUND_BYTES.false c.if-queue-lt-QUEUE_BYTES.false (found-sound (c.sound.ensures c.args.clock.now) (c.if-not-sound.false)) c.retired.ensures c.retains-kept.ensures c.if-kept.false c.forget.ensures c.flag-2.ensures

@@ -12,7 +12,7 @@ pub request-n-requires : goal.request-n-requires
 request-n-requires c = omega (arith, c.requires.list)
 
 pub returns-in-Ok : goal.returns-in-Ok
-returns-in-Ok c = went c.args.words.now c.args.halves.now c.args.bytes.now c.args.clock.now c.args.list.now c.args.outbound.now c.args.body.now c.requires (omega arith) c.in-Ok.ensures c.clock_in-k.ensures c.request-n.ensures c.plain.ensures
+returns-in-Ok c = went c.args.words.now c.args.halves.now c.args.bytes.now c.args.clock.now c.args.list.now c.args.outbound.now c.args.body.now c.requires (omega arith) c.in-Ok.ensures c.clock_in-k.ensures c.request-n.ensures c.number.ensures
 
 pub returns-in-Err : goal.returns-in-Err
 returns-in-Err c = stopped c.args.words.now c.args.halves.now c.args.bytes.now c.args.clock.now c.args.list.now c.args.outbound.now c.args.body.now c.requires c.in-Err.ensures c.refusal.ensures

@@ -11,7 +11,7 @@ pub overflow_add-halves : goal.overflow_add-halves
 overflow_add-halves c = omega (arith, low_half c.args.words.now c.args.halves.now c.args.bytes.now c.args.clock.now c.requires.0.checked c.requires.0.low)
 
 pub returns-in-Ok : goal.returns-in-Ok
-returns-in-Ok c = proposes c.args.words.now c.args.halves.now c.args.bytes.now c.args.clock.now c.args.terms c.args.outbound.now c.args.body.now c.requires.0 c.requires.1 (omega arith) c.in-Ok.ensures c.stage.ensures c.plain.ensures
+returns-in-Ok c = proposes c.args.words.now c.args.halves.now c.args.bytes.now c.args.clock.now c.args.terms c.args.outbound.now c.args.body.now c.requires.0 c.requires.1 (omega arith) c.in-Ok.ensures c.stage.ensures c.done.ensures
 
 pub returns-in-Err : goal.returns-in-Err
 returns-in-Err c = stopped c.args.words.now c.args.halves.now c.args.bytes.now c.args.clock.now c.args.terms c.args.outbound.now c.args.body.now c.requires.0 c.requires.1 c.in-Err.ensures c.refusal.ensures

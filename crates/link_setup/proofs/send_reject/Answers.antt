@@ -22,7 +22,7 @@ pub request-n-requires : goal.request-n-requires
 request-n-requires c = omega (arith, c.requires.list)
 
 pub returns-in-Ok : goal.returns-in-Ok
-returns-in-Ok c = went c.args.words.now c.args.halves.now c.args.bytes.now c.args.clock.now c.args.list.now c.args.outbound.now c.requires c.reject_in-j.ensures (omega arith) c.in-Ok.ensures c.clock_in-k.ensures c.request-n.ensures c.plain.ensures
+returns-in-Ok c = went c.args.words.now c.args.halves.now c.args.bytes.now c.args.clock.now c.args.list.now c.args.outbound.now c.requires c.reject_in-j.ensures (omega arith) c.in-Ok.ensures c.clock_in-k.ensures c.request-n.ensures c.done.ensures
 
 pub returns-in-Err : goal.returns-in-Err
 returns-in-Err c = stopped c.args.words.now c.args.halves.now c.args.bytes.now c.args.clock.now c.args.list.now c.args.outbound.now c.requires c.reject_in-j.ensures c.in-Err.ensures c.refusal.ensures

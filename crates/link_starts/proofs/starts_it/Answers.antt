@@ -12,4 +12,4 @@ pub fill-requires : goal.fill-requires
 fill-requires c = (omega (arith, c.body_bytes-n.ensures, bodies-there c.args.«record» c.args.numbers.now c.args.lengths.now c.args.bodies.now c.args.policy c.args.reject.now c.args.outbound.now c.args.queue.now c.requires), omega (arith, c.body_bytes-n.ensures, (beginning c.args.«record» c.args.numbers.now c.args.lengths.now c.args.bodies.now c.args.policy c.args.reject.now c.args.outbound.now c.args.queue.now c.requires).fitting.small, c.requires.outbound))
 
 pub returns : goal.returns
-returns c = starts_in c.args.«record» c.args.numbers.now c.args.lengths.now c.args.bodies.now c.args.policy c.args.reject.now c.args.outbound.now c.args.queue.now c.requires _ _ c.begin.ensures _ c.body_bytes-n.ensures _ _ c.fill.ensures c.clear.ensures c.plain.ensures
+returns c = starts_in c.args.«record» c.args.numbers.now c.args.lengths.now c.args.bodies.now c.args.policy c.args.reject.now c.args.outbound.now c.args.queue.now c.requires _ _ c.begin.ensures _ c.body_bytes-n.ensures _ _ c.fill.ensures c.clear.ensures c.done.ensures
