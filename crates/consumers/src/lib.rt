@@ -50,7 +50,9 @@ fn ready(
         events: 0,
         at: 0,
     };
-    let e = draining::carry(r, step, s.waiting, 0, status, list, delivery, outbound, queue);
+    let e = draining::carry(
+        r, step, s.waiting, 0, status, list, delivery, outbound, queue,
+    );
     Returned {
         session: e.session,
         answer: Answer::Done,

@@ -127,9 +127,7 @@ fn enqueue(
         let x = Refusal::QueueBytes;
         return link_draining::fail(words, halves, bytes, clock, list, 0, queue, x);
     }
-    link_queue::insert(
-        words, halves, bytes, queue, end, f.number, f.kind, f.body,
-    );
+    link_queue::insert(words, halves, bytes, queue, end, f.number, f.kind, f.body);
     let step = Step {
         turn: t,
         events: events::request(c, list, 0),

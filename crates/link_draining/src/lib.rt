@@ -212,7 +212,9 @@ pub fn carry(
 {
     full_words(words);
     full_bytes(bytes);
-    let d = link_delivery::drain(step, words, halves, bytes, from, queue, status, list, delivery);
+    let d = link_delivery::drain(
+        step, words, halves, bytes, from, queue, status, list, delivery,
+    );
     let turn = d.step.turn;
     let events = d.step.events;
     match d.stop {
