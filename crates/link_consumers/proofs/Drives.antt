@@ -13,7 +13,7 @@ use Rattle.rules.specs.declared.Answer.TheVariants.{Done, Refused}
 use Rattle.rules.specs.Lists.{Bytes}
 use Rattle.rules.specs.Calls.{is_ready}
 use Rattle.rules.specs.Buffers.{wrong_code}
-use Rattle.std.specs.Prelude.{Option, None, Some}
+use Rattle.std.specs.Prelude.{Result, Ok, Err}
 use Rattle.peer_session.specs.declared.SessionState.{SessionState}
 use Rattle.session.specs.Promise.{lent, Called}
 use Rattle.delivery.specs.declared.Turn.{Turn}
@@ -70,13 +70,13 @@ ready-code status mode = refl
 spends : (status : HostStatus) (mode : ℕ) → ltb 4 mode ≡ false → Spends (is_ready status mode)
 spends status mode e = record { reach = λ s g. ready-reach status mode s; refuses = λ s g. ready_spent status mode s (ltb-false 4 mode e) g }
 
-module _ (status : HostStatus) (mode : ℕ) (w h b : List ℕ) (t : Float) (l : List ℕ) (d o q : Bytes) {z : Option Refusal}
+module _ (status : HostStatus) (mode : ℕ) (w h b : List ℕ) (t : Float) (l : List ℕ) (d o q : Bytes) {z : Result (Unit {0}) Refusal}
     (e : Enters w h b (ltb 4 mode) (length l) (length d) (length o) (length q) z) where
-  pub stopped : (x : Refusal) → z ≡ Some x → {y : LinkAnswer} → y ≡ answer_of (Refused x) 0
+  pub stopped : (x : Refusal) → z ≡ Err x → {y : LinkAnswer} → y ≡ answer_of (Refused x) 0
       → Driven (parts w h b t) (parts w h b t) y (λ s r. Called (is_ready status mode) s (lent l d o q) r (lent l d o q))
   stopped x ez a =
       refuses (parts w h b t) x a
-      (λ r tu. (found_by l d o q e t (Some x) ez).call (is_ready status mode) (ready-takes status mode) (ready-code status mode) (spends status mode) l d o q refl refl refl refl r tu)
+      (λ r tu. (found_by l d o q e t (Err x) ez).call (is_ready status mode) (ready-takes status mode) (ready-code status mode) (spends status mode) l d o q refl refl refl refl r tu)
 
-  pub readying : z ≡ None → Readying mode w h b t l d o q
-  readying ez = record { arrived = arrives l d o q e t ez; known = ltb-false 4 mode (found_by l d o q e t None ez).known }
+  pub readying : z ≡ Ok tt → Readying mode w h b t l d o q
+  readying ez = record { arrived = arrives l d o q e t ez; known = ltb-false 4 mode (found_by l d o q e t (Ok tt) ez).known }

@@ -65,8 +65,8 @@ pub fn consumer_ready(
         4 < mode,
     );
     match stop {
-        Some(x) => link_codes::refusal(x),
-        None => ready(
+        Err(x) => link_codes::refusal(x),
+        Ok(()) => ready(
             words, halves, bytes, clock, list, delivery, outbound, queue, status, mode as u8,
         ),
     }

@@ -14,7 +14,7 @@ use Rattle.rules.specs.Lists.{Bytes}
 use Rattle.rules.specs.State.{Frame}
 use Rattle.rules.specs.Calls.{gets_data}
 use Rattle.rules.specs.Buffers.{wrong_code}
-use Rattle.std.specs.Prelude.{Option, None, Some}
+use Rattle.std.specs.Prelude.{Option, None, Some, Result, Ok, Err}
 use Rattle.peer_session.specs.Sound as Sounds
 use Rattle.session.specs.Promise.{lent, Called}
 use Rattle.draining.specs.Arrived.{told}
@@ -96,16 +96,16 @@ spends status f e =
     let k : f.kind ≤ 2 = ltb-false 2 f.kind e in
     record { reach = λ s g. spent_reach status f s k g; refuses = λ s g. spent status f s k g }
 
-module _ (status : HostStatus) (f : Frame) (w h b : List ℕ) (t : Float) (l : List ℕ) (d o q : Bytes) {z : Option Refusal}
+module _ (status : HostStatus) (f : Frame) (w h b : List ℕ) (t : Float) (l : List ℕ) (d o q : Bytes) {z : Result (Unit {0}) Refusal}
     (e : Enters w h b (ltb 2 f.kind) (length l) (length d) (length o) (length q) z) where
-  pub stopped : (x : Refusal) → z ≡ Some x → {y : LinkAnswer} → y ≡ answer_of (Refused x) 0
+  pub stopped : (x : Refusal) → z ≡ Err x → {y : LinkAnswer} → y ≡ answer_of (Refused x) 0
       → Driven (parts w h b t) (parts w h b t) y (λ s r. Called (gets_data status f) s (lent l d o q) r (lent l d o q))
   stopped x ez a =
       refuses (parts w h b t) x a
-      (λ r tu. (found_by l d o q e t (Some x) ez).call (gets_data status f) (data_takes status f) (data_code status f) (spends status f) l d o q refl refl refl refl r tu)
+      (λ r tu. (found_by l d o q e t (Err x) ez).call (gets_data status f) (data_takes status f) (data_code status f) (spends status f) l d o q refl refl refl refl r tu)
 
-  pub arriving : z ≡ None → Arriving f w h b t l d o q
-  arriving ez = record { arrived = arrives l d o q e t ez; kind = ltb-false 2 f.kind (found_by l d o q e t None ez).known }
+  pub arriving : z ≡ Ok tt → Arriving f w h b t l d o q
+  arriving ez = record { arrived = arrives l d o q e t ez; kind = ltb-false 2 f.kind (found_by l d o q e t (Ok tt) ez).known }
 
 -- ---- the answer
 

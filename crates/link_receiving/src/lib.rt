@@ -90,8 +90,8 @@ pub fn data(
         2 < kind,
     );
     match stop {
-        Some(x) => link_codes::refusal(x),
-        None => {
+        Err(x) => link_codes::refusal(x),
+        Ok(()) => {
             let f = Frame {
                 number,
                 kind: kind as u8,

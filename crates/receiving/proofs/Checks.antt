@@ -51,9 +51,9 @@ module _ (n : ℕ) (t : State) where
       full-queued e = rw (le-leb 512 (length t.inbox.waiting + length t.inbox.queue) many, w, e)
 
       module _ (q : queued n t ≡ false) where
-        pub full-new : t.inbox.remote < n → ltb t.inbox.remote n ≡ acks_full n t
+        pub full-new : t.inbox.remote < n → true ≡ acks_full n t
         unfolding acks_full
-        full-new h = rw (lt-ltb t.inbox.remote n h, le-leb 512 (length t.inbox.waiting + length t.inbox.queue) many, w, q, lt-leb n t.inbox.remote h)
+        full-new h = rw (le-leb 512 (length t.inbox.waiting + length t.inbox.queue) many, w, q, lt-leb n t.inbox.remote h)
 
         pub full-again : n ≤ t.inbox.remote → ltb t.inbox.released n ≡ acks_full n t
         unfolding acks_full
