@@ -71,13 +71,6 @@ is-asked {l = l} {l' = l'} {n = n} e li f =
 
 -- ---- setup started
 
-module _ (h b : List ℕ) (restoring : Bool) where
-  pub not_starting : restoring ≡ false → Starts restoring h b h b
-  not_starting e = record { starts = λ f. absurd (true≢false (sym f ∙ e)); halves = λ f. refl; bytes = λ f. refl }
-
-  pub starts : {h' b' : List ℕ} → restoring ≡ true → Stages (at b 768) 2 no_terms h b h' b' → Starts restoring h b h' b'
-  starts e s = record { starts = λ f. s; halves = λ f. absurd (true≢false (sym e ∙ f)); bytes = λ f. absurd (true≢false (sym e ∙ f)) }
-
 module _ (w h b : List ℕ) (t : Float) (k : Checked (opened_of (parts w h b t)) true) (lh : length h ≡ 772) where
   disposition_in : at b 768 ≡ (opened_of (parts w h b t)).stage.disposition
   unfolding opened_of
