@@ -32,6 +32,7 @@ fn list_if(goes: bool, list: &mut [u64], n: usize, event: EventCode, number: u64
     n
 }
 
+// `==`, said in the rule book's words.
 pub fn is_raw(mode: ReceiveMode) -> bool
     ensures { result ≡ is_raw mode }
 {

@@ -1,4 +1,4 @@
-// Document 01's numbers and values of answers, as programs print them.
+// The values of answers, as programs print them.
 #![tactic(auto)]
 
 ghost use Rattle.std.specs.Prelude.{◌≡◌};

@@ -22,6 +22,7 @@ pub struct Turn {
     pub failed: bool,
     pub remote: u64,
     pub clock: Clock,
+    // the session's number, passed on as it is
     pub disposition: u8,
     // the next message's number as the call began
     pub next: u64,
@@ -43,6 +44,7 @@ pub struct Step {
 #[derive(Clone, Copy)]
 pub struct Frame<'a> {
     pub number: u64,
+    // the queue's number, passed on as it is
     pub kind: u8,
     pub body: &'a [u8],
 }

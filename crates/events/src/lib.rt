@@ -9,7 +9,8 @@ ghost use Rattle.events.specs.Written.{asked, Listed};
 
 use rules::{Clock, EventCode};
 
-// Writes event number n.
+// Writes event number n. A list and its count stay two parameters: a struct with the list's `&mut` needs a clause in each function that it is the same
+// reference still and as long as it was, which a slice needs not (tried with this function and its callers).
 pub fn emit(list: &mut [u64], n: usize, event: EventCode, number: u64, start: u64, len: u64)
     requires { 4 * n + 4 ≤ length list.old }
     ensures { list.new ≡ placed list.old (4 * n) (event_number event ∷ number ∷ start ∷ len ∷ []) }

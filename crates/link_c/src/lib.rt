@@ -25,6 +25,7 @@ pub mod questions; // what a session is asked
 #[derive(Clone, Copy)]
 pub struct LinkPolicy {
     pub policy: Policy,
+    // C has no Option
     pub known: bool,
 }
 

@@ -16,6 +16,7 @@ use rules::Terms;
 #[derive(Clone, Copy)]
 pub struct LinkTerms {
     pub terms: Terms,
+    // C has no Option
     pub waiting: bool,
 }
 

@@ -11,7 +11,8 @@ use rules::Refusal;
 
 // ---- the tests at the entry of a call that takes all four buffers
 
-// wrong: a code outside its list.
+// wrong: a code outside its list. Calls that take fewer buffers have tests of their own: one function for all of them, with the buffers as arguments, was
+// tried, and made some calls 7 to 15 % slower.
 pub fn enters(
     words: &Words,
     halves: &Halves,

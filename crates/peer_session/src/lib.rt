@@ -26,7 +26,8 @@ pub struct Stage {
     pub failed: bool,
 }
 
-// The Rust's `Option<TerminalHandoff>`: one that is not present is none, whatever its other fields.
+// The Rust's `Option<TerminalHandoff>`: one that is not present is none, whatever its other fields. It is no Option, and its body no slice, since the
+// promise for C says of every byte of the parts that it is kept, those of a handoff that is not present included.
 #[repr(C)]
 #[derive(Clone, Copy)]
 pub struct TerminalHandoff {
@@ -39,7 +40,7 @@ pub struct TerminalHandoff {
     pub present: bool,
 }
 
-// The body of a rejection, 1 to 64 bytes.
+// The body of a rejection, 1 to 64 bytes. The length stands beside, since a session that was tampered with may have any, and is refused by 3.
 #[repr(C)]
 #[derive(Clone, Copy)]
 pub struct RejectBody {

@@ -16,6 +16,7 @@ use rules::{BodyKind, Policy};
 pub struct Queued {
     pub number: u64,
     pub len: u32,
+    // a number: a session that was tampered with may have any
     pub kind: u8,
 }
 

@@ -17,6 +17,7 @@ use starts::Reliable;
 #[repr(C)]
 #[derive(Clone, Copy)]
 pub struct Handoff {
+    // C's struct: the other fields count only where it is present
     pub present: bool,
     pub id: u64,
     pub number: u64,

@@ -1,4 +1,4 @@
-// Starting a session from a record: the Rust's `Session::new` with document 01's checks of the record.
+// Starting a session from a record: the Rust's `Session::new` with the checks of the record.
 #![tactic(auto)]
 
 ghost use Rattle.std.specs.Prelude.{◌≡◌, false, ◌&&◌, ◌≤◌, length, take, leb};
