@@ -3,8 +3,6 @@
 
 ghost use Rattle.std.specs.Prelude.{◌≡◌, Bool, true, false, ◌&&◌, ◌||◌, List, ℕ, ◌+◌, ◌*◌, ◌≤◌, ◌<◌, length, leb, eqb};
 ghost use Rattle.rules.specs.Acks.{report_data, report_ack};
-ghost use Rattle.rules.specs.Codes.{event_number};
-ghost use Rattle.rules.specs.Codes.{event_number};
 ghost use Rattle.rules.specs.Calls.{gets_ack, gets_keepalive, reports};
 ghost use Rattle.rules.specs.State.{is_raw};
 ghost use Rattle.events.specs.Written.{Listed};
@@ -21,12 +19,12 @@ use session::{Returned, Told};
 // ---- an ack
 
 // Lists event number n with a code and a number, where it is to go. Returns the next event's number.
-fn list_if(goes: bool, list: &mut [u64], n: usize, event: EventCode, number: u64) -> usize
+fn list_if(goes: bool, list: &mut [u64], n: usize, code: u64, number: u64) -> usize
     requires { 4 * n + 4 ≤ length list.old }
-    ensures { ListedIf goes (event_number event) number list.old n list.new result }
+    ensures { ListedIf goes code number list.old n list.new result }
 {
     if goes {
-        events::emit(list, n, event, number, 0, 0);
+        events::emit(list, n, code, number, 0, 0);
         return n + 1;
     }
     n
@@ -99,8 +97,14 @@ pub fn notify_acknowledged(
     requires { 4 * n + 8 ≤ length list.old }
     ensures { Listed (notices number complete raw) list.old n list.new result }
 {
-    let m = list_if(complete, list, n, EventCode::RejectionAcknowledged, 0);
-    list_if(raw, list, m, EventCode::Acknowledged, number)
+    let m = list_if(
+        complete,
+        list,
+        n,
+        EventCode::RejectionAcknowledged as u64,
+        0,
+    );
+    list_if(raw, list, m, EventCode::Acknowledged as u64, number)
 }
 
 // An ack in range.
@@ -132,7 +136,7 @@ fn out_of_range(s: SessionState, list: &mut [u64], queue: &mut [u8]) -> Returned
     events::emit(
         list,
         0,
-        EventCode::Failure,
+        EventCode::Failure as u64,
         Refusal::AckOutOfRange as u64,
         0,
         0,
@@ -196,7 +200,7 @@ pub fn receive_keepalive(s: SessionState, list: &mut [u64]) -> Told
             events: 0,
         };
     }
-    events::emit(list, 0, EventCode::Keepalive, 0, 0, 0);
+    events::emit(list, 0, EventCode::Keepalive as u64, 0, 0, 0);
     let v = s.retry;
     let n = numbers::list_all(v, list, 1);
     Told {
@@ -234,7 +238,7 @@ fn report_data(s: SessionState, list: &mut [u64], number: u64) -> Returned
         };
     }
     r.handoff.sent = true;
-    events::emit(list, 0, EventCode::CommitRequested, 0, 0, 0);
+    events::emit(list, 0, EventCode::CommitRequested as u64, 0, 0, 0);
     Returned {
         session: r,
         answer: Answer::Done,

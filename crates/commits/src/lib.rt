@@ -87,7 +87,7 @@ pub fn notify_committed(persisted: bool, list: &mut [u64], n: usize) -> usize
     ensures { Listed (notices persisted) list.old n list.new result }
 {
     if persisted {
-        events::emit(list, n, EventCode::Committed, 0, 0, 0);
+        events::emit(list, n, EventCode::Committed as u64, 0, 0, 0);
         return n + 1;
     }
     n

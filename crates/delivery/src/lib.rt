@@ -71,7 +71,7 @@ fn hand_over(s: Step, list: &mut [u64], delivery: &mut [u8], f: Frame) -> Step
     events::emit(
         list,
         s.events,
-        EventCode::Message,
+        EventCode::Message as u64,
         f.number,
         s.at as u64,
         len as u64,

@@ -108,7 +108,7 @@ pub fn fail(s: SessionState, list: &mut [u64], n: usize, queue: &mut [u8], x: Re
 {
     let emptied = peer_session::broken(s, queue);
     let number = u64::from(x);
-    events::emit(list, n, EventCode::Failure, number, 0, 0);
+    events::emit(list, n, EventCode::Failure as u64, number, 0, 0);
     Ended {
         session: emptied,
         events: n + 1,

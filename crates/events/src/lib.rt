@@ -3,20 +3,18 @@
 
 ghost use Rattle.std.specs.Prelude.{◌≡◌, ◌∷◌, [], ◌+◌, ◌*◌, ◌≤◌, length};
 ghost use Rattle.stores.specs.Placed.{placed};
-ghost use Rattle.rules.specs.Codes.{event_number};
-ghost use Rattle.rules.specs.Codes.{event_number};
 ghost use Rattle.events.specs.Written.{asked, Listed};
 
 use rules::{Clock, EventCode};
 
 // Writes event number n. A list and its count stay two parameters: a struct with the list's `&mut` needs a clause in each function that it is the same
 // reference still and as long as it was, which a slice needs not (tried with this function and its callers).
-pub fn emit(list: &mut [u64], n: usize, event: EventCode, number: u64, start: u64, len: u64)
+pub fn emit(list: &mut [u64], n: usize, code: u64, number: u64, start: u64, len: u64)
     requires { 4 * n + 4 ≤ length list.old }
-    ensures { list.new ≡ placed list.old (4 * n) (event_number event ∷ number ∷ start ∷ len ∷ []) }
+    ensures { list.new ≡ placed list.old (4 * n) (code ∷ number ∷ start ∷ len ∷ []) }
 {
     let i = 4 * n;
-    list[i] = u64::from(event);
+    list[i] = code;
     list[i + 1] = number;
     list[i + 2] = start;
     list[i + 3] = len;
@@ -28,7 +26,7 @@ pub fn request(c: Clock, list: &mut [u64], n: usize) -> usize
     ensures { Listed (asked c) list.old n list.new result }
 {
     if c.persisted < c.generation {
-        emit(list, n, EventCode::CommitRequested, 0, 0, 0);
+        emit(list, n, EventCode::CommitRequested as u64, 0, 0, 0);
         return n + 1;
     }
     n

@@ -28,7 +28,7 @@ pub fn receive_again(
 {
     let c = link_codes::clock_in(halves, clock);
     if number <= words[parts::RELEASED] {
-        events::emit(list, 0, EventCode::AnswerAck, number, 0, 0);
+        events::emit(list, 0, EventCode::AnswerAck as u64, number, 0, 0);
         let n = events::request(c, list, 1);
         return Ending {
             events: n,

@@ -100,9 +100,16 @@ fn hand_over(
 {
     let body = stores::part(store, start, len);
     stores::copy_in(delivery, at, body);
-    events::emit(list, n, EventCode::Message, number, at as u64, len as u64);
+    events::emit(
+        list,
+        n,
+        EventCode::Message as u64,
+        number,
+        at as u64,
+        len as u64,
+    );
     if persisted < generation {
-        events::emit(list, n + 1, EventCode::CommitRequested, 0, 0, 0);
+        events::emit(list, n + 1, EventCode::CommitRequested as u64, 0, 0, 0);
         return n + 2;
     }
     n + 1

@@ -155,7 +155,7 @@ pub fn fail(
     link_queue::clear(words, halves, bytes, queue);
     mark_failed(bytes);
     let number = u64::from(x);
-    events::emit(list, n, EventCode::Failure, number, 0, 0);
+    events::emit(list, n, EventCode::Failure as u64, number, 0, 0);
     Ending {
         events: n + 1,
         stop: Some(x),

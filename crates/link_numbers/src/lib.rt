@@ -131,7 +131,7 @@ fn list_one(upto: u64, x: u64, list: &mut [u64], n: usize) -> usize
     ensures { Listed (map send_ack (kept (releases_ack upto) (x ∷ []))) list.old n list.new result }
 {
     if x <= upto {
-        events::emit(list, n, EventCode::SendAck, x, 0, 0);
+        events::emit(list, n, EventCode::SendAck as u64, x, 0, 0);
         return n + 1;
     }
     n
@@ -171,7 +171,7 @@ pub fn list_all(words: &Words, from: usize, at: usize, list: &mut [u64], n: usiz
     let count = words[at] as usize;
     for i in 0..count {
         let x = words[from + i];
-        events::emit(list, n + i, EventCode::SendAck, x, 0, 0);
+        events::emit(list, n + i, EventCode::SendAck as u64, x, 0, 0);
     }
     n + count
 }

@@ -211,7 +211,7 @@ fn send_if(goes: bool, number: u32, len: u32, list: &mut [u64], n: usize, from: 
         events::emit(
             list,
             n,
-            EventCode::SendData,
+            EventCode::SendData as u64,
             number as u64,
             from as u64,
             len as u64,

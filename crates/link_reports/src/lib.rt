@@ -56,7 +56,7 @@ fn data_sent(
     link_outbox::mark_sent(words, halves, bytes, number);
     if own {
         bytes[parts::HANDOFF_SENT] = 1;
-        events::emit(list, 0, EventCode::CommitRequested, 0, 0, 0);
+        events::emit(list, 0, EventCode::CommitRequested as u64, 0, 0, 0);
         return link_codes::done(1);
     }
     link_codes::done(0)
@@ -147,7 +147,7 @@ pub fn keepalive(
     if !link_sound::sound(words, halves, bytes) {
         return link_codes::refusal(Refusal::BadRecord);
     }
-    events::emit(list, 0, EventCode::Keepalive, 0, 0, 0);
+    events::emit(list, 0, EventCode::Keepalive as u64, 0, 0, 0);
     let n = link_numbers::list_all(words, parts::RETRY_NUMBERS, parts::RETRIES, list, 1);
     link_codes::flag(true, n)
 }

@@ -133,7 +133,7 @@ fn list_one(upto: u64, x: u64, list: &mut [u64], n: usize) -> usize
     ensures { Listed (map send_ack (kept (releases_ack upto) (x ∷ []))) list.old n list.new result }
 {
     if x <= upto {
-        events::emit(list, n, EventCode::SendAck, x, 0, 0);
+        events::emit(list, n, EventCode::SendAck as u64, x, 0, 0);
         return n + 1;
     }
     n
@@ -164,7 +164,7 @@ pub fn list_all(v: Numbers, list: &mut [u64], n: usize) -> usize
     ensures count { result ≡ n + v.count }
 {
     for (i, &x) in v.values[..v.count].iter().enumerate() {
-        events::emit(list, n + i, EventCode::SendAck, x, 0, 0);
+        events::emit(list, n + i, EventCode::SendAck as u64, x, 0, 0);
     }
     n + v.count
 }

@@ -209,7 +209,7 @@ fn send_if(goes: bool, u: Unacked, list: &mut [u64], n: usize, at: usize) -> usi
         events::emit(
             list,
             n,
-            EventCode::SendData,
+            EventCode::SendData as u64,
             u.number as u64,
             at as u64,
             u.len as u64,

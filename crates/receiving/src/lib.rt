@@ -79,7 +79,7 @@ fn receive_again(s: SessionState, list: &mut [u64], number: u64) -> Ended
     ensures { Acknowledges number s list.old result list.new }
 {
     if number <= s.released {
-        events::emit(list, 0, EventCode::AnswerAck, number, 0, 0);
+        events::emit(list, 0, EventCode::AnswerAck as u64, number, 0, 0);
         return Ended {
             session: s,
             events: events::request(s.clock, list, 1),

@@ -1,4 +1,4 @@
--- The numbers of events, and what a call reads a number as. Assumes nothing.
+-- What a call reads a number as. Assumes nothing.
 use Rattle.std.specs.Prelude.{ℕ, ◌≡◌, ◌≤◌, ◌<◌, ◌⊎◌, Result, Ok, Err}
 use Rattle.rules.specs.declared.Refusal.{Refusal}
 use Rattle.rules.specs.declared.Refusal.TheVariants.{UnknownCode}
@@ -7,22 +7,7 @@ use Rattle.rules.specs.declared.FrameKind.{FrameKind}
 use Rattle.rules.specs.declared.FrameKind.TheVariants as Kinds
 use Rattle.rules.specs.declared.Connectivity.{Connectivity}
 use Rattle.rules.specs.declared.Connectivity.TheVariants as Line
-use Rattle.rules.specs.declared.EventCode.{EventCode}
-use Rattle.rules.specs.declared.EventCode.TheVariants as Codes
 use Rattle.rules.specs.Receiving.{mode_of}
-
--- as Events.antt lists them
-abbrev pub event_number : EventCode → ℕ
-event_number Codes.CommitRequested = 1
-event_number Codes.Message = 2
-event_number Codes.Acknowledged = 3
-event_number Codes.RejectionAcknowledged = 4
-event_number Codes.Keepalive = 5
-event_number Codes.Committed = 6
-event_number Codes.Failure = 7
-event_number Codes.SendData = 8
-event_number Codes.SendAck = 9
-event_number Codes.AnswerAck = 10
 
 abbrev pub frame_kind_number : FrameKind → ℕ
 frame_kind_number Kinds.Data = 0

@@ -1,6 +1,3 @@
-use Rattle.std.specs.Prelude.{ℕ, ◌*◌, ◌∷◌, []}
-use mathlib.Core.Path.{◌∙◌, ap}
-use Rattle.stores.specs.Placed.{placed}
 use native.Mathlib.Omega.{arith}
 use lib.ListN.{length-set}
 use Rattle.events.proofs.Laws.{four}
@@ -16,6 +13,4 @@ pub bounds-list-i-4 : goal.bounds-list-i-4
 bounds-list-i-4 c = simp length-set (omega arith)
 
 pub returns : goal.returns
-returns c =
-    four c.args.list.now _ c.from.result c.args.number c.args.start c.args.len c.requires
-    ∙ ap (λ (code : ℕ). placed c.args.list.now (4 * c.args.n) (code ∷ c.args.number ∷ c.args.start ∷ c.args.len ∷ [])) c.from.ensures
+returns c = four c.args.list.now _ c.args.code c.args.number c.args.start c.args.len c.requires
