@@ -1,7 +1,7 @@
 -- The steps of a command on the parts of a session, by what they leave of them. Assumes nothing.
 use Prim.Native.Nat.{ℕ, ◌+◌, ◌≤◌, ◌<◌}
 use mathlib.Core.Path.{◌≡◌, refl, sym, ap, ◌∙◌, subst}
-use mathlib.Core.Bool.{Bool, true, false, true≢false}
+use mathlib.Core.Bool.{Bool, true, false}
 use mathlib.Core.List.{List}
 use mathlib.Core.Option.{none, some}
 use native.Mathlib.Omega.{arith}
@@ -70,13 +70,6 @@ is-asked {l = l} {l' = l'} {n = n} e li f =
     record { events = n; listed = subst (λ (x : Clock). Listed (asked x) l 0 l' n) e li; answers = f }
 
 -- ---- setup started
-
-module _ (h b : List ℕ) (restoring : Bool) where
-  pub not_starting : restoring ≡ false → Starts restoring h b h b
-  not_starting e = record { starts = λ f. absurd (true≢false (sym f ∙ e)); halves = λ f. refl; bytes = λ f. refl }
-
-  pub starts : {h' b' : List ℕ} → restoring ≡ true → Stages (at b 768) 2 no_terms h b h' b' → Starts restoring h b h' b'
-  starts e s = record { starts = λ f. s; halves = λ f. absurd (true≢false (sym e ∙ f)); bytes = λ f. absurd (true≢false (sym e ∙ f)) }
 
 module _ (w h b : List ℕ) (t : Float) (k : Checked (opened_of (parts w h b t)) true) (lh : length h ≡ 772) where
   disposition_in : at b 768 ≡ (opened_of (parts w h b t)).stage.disposition

@@ -17,9 +17,9 @@ use Rattle.queue.specs.View.{len_q, frame, frames_of}
 use Rattle.peer_session.specs.declared.Stage.{Stage}
 use Rattle.peer_session.specs.declared.RejectBody.{RejectBody}
 use Rattle.peer_session.specs.declared.SessionState.{SessionState}
-use Rattle.peer_session.specs.View.{held, handoff_of, stage_of, reject_of, state_of}
-use Rattle.peer_session.specs.New.{New, nothing, NoMessages}
-use Rattle.peer_session.proofs.Held.{outbox_cong, inbox_cong, stage_cong, fixed_cong, state_cong, agree}
+use Rattle.peer_session.specs.View.{handoff_of, stage_of, reject_of, state_of}
+use Rattle.peer_session.specs.New.{New}
+use Rattle.peer_session.proofs.Held.{outbox_cong, inbox_cong, stage_cong, fixed_cong, state_cong}
 
 module _ {x : Outbox} {remote disposition : ℕ} {policy : Policy} {reject : RejectBody} {r : SessionState} (n : New x remote disposition policy reject r) where
   no_handoff : handoff_of r.handoff ≡ none
@@ -43,29 +43,3 @@ module _ {x : Outbox} {remote disposition : ℕ} {policy : Policy} {reject : Rej
       let rs : take r.retry.count r.retry.values ≡ [] = ap (λ (k : ℕ). take k r.retry.values) n.retry in
       state_cong (outbox_cong (ap (λ (y : Outbox). y.next) n.outbox) (ap (λ (y : Outbox). unacked_of y o) n.outbox ∙ e))
       (inbox_cong n.number n.released fs ws rs) n.clock new-stage (fixed_cong n.policy_is (ap reject_of n.reject_is))
-
--- the session of a refused start
-pub nothing-held : {x : Outbox} {policy : Policy} {reject : RejectBody} {r : SessionState} → New x 0 0 policy reject r → NoMessages 0 x
-    → policy ≡ record { gap = 0; messages = 0; bytes = 0; body = 0 } → reject.len ≡ 0 → held r ≡ nothing
-unfolding new
-nothing-held {x} {policy} {reject} {r} n m p z =
-    agree
-    (record {
-      next = ap (λ (y : Outbox). y.next) n.outbox ∙ m.next_is;
-      unackeds = ap (λ (y : Outbox). y.count) n.outbox ∙ m.none;
-      unacked = ap (λ (y : Outbox). take y.count y.records) n.outbox ∙ ap (λ (k : ℕ). take k x.records) m.none;
-      remote = n.number;
-      released = n.released;
-      queues = n.queue.none;
-      queue = ap (λ (k : ℕ). take k r.queue.records) n.queue.none;
-      waits = n.waiting;
-      waiting = ap (λ (k : ℕ). take k r.waiting.values) n.waiting;
-      retries = n.retry;
-      retry = ap (λ (k : ℕ). take k r.retry.values) n.retry;
-      clock = n.clock;
-      stage = new-stage n;
-      handed = ap (λ (b : Bool). if b then r.handoff.len else 0) n.handoff.absent;
-      policy = n.policy_is ∙ p;
-      rejects = ap (λ (j : RejectBody). j.len) n.reject_is ∙ z;
-      reject = ap reject_of n.reject_is ∙ ap (λ (k : ℕ). take k reject.bytes) z;
-    })

@@ -9,12 +9,6 @@ allocate-requires c = exact_in c.args.words.now c.args.halves.now c.args.bytes.n
 pub overflow_add-halves : goal.overflow_add-halves
 overflow_add-halves c = omega (arith, low_in c.args.words.now c.args.halves.now c.args.bytes.now c.args.clock.now c.args.outbound.now c.requires.0)
 
-pub hand-requires : goal.hand-requires
-hand-requires c = c.requires.2
-
-pub done-requires : goal.done-requires
-done-requires c = omega (arith, c.requires.0.list)
-
 pub returns-in-Ok : goal.returns-in-Ok
 returns-in-Ok c = goes c.args.words.now c.args.halves.now c.args.bytes.now c.args.clock.now c.args.list.now c.args.outbound.now c.args.body.now c.args.id c.requires.0 c.requires.1 c.full_halves.ensures c.in-Ok.ensures c.hand.ensures c.done.ensures
 

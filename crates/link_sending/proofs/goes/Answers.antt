@@ -8,9 +8,6 @@ allocate-requires c = exact-outbox c.args.words.now c.args.halves.now c.args.byt
 pub overflow_add-halves : goal.overflow_add-halves
 overflow_add-halves c = omega (arith, low_generation c.args.words.now c.args.halves.now c.args.bytes.now c.args.clock.now c.requires)
 
-pub request-n-requires : goal.request-n-requires
-request-n-requires c = omega (arith, c.requires.list)
-
 pub returns-in-Ok : goal.returns-in-Ok
 returns-in-Ok c = went c.args.words.now c.args.halves.now c.args.bytes.now c.args.clock.now c.args.list.now c.args.outbound.now c.args.body.now c.requires c.full_halves.ensures c.in-Ok.ensures c.clock_in-k.ensures c.request-n.ensures c.plain.ensures
 

@@ -11,16 +11,6 @@ returns-then-o-ge-MAX_UNACKED c = many c.args.body.now c.args.o c.args.store.now
 pub returns-then-at-body : goal.returns-then-at-body
 returns-then-at-body c = long c.args.body.now c.args.o c.args.store.now c.requires c.if-o-gt-LAST_MESSAGE.false (omega (arith, c.used-at.ensures, c.if-at-body.true, c.requires.small))
 
-pub append-more-requires : goal.append-more-requires
-append-more-requires c =
-    record {
-      exact = c.requires;
-      next = c.if-o-gt-LAST_MESSAGE.false;
-      few = c.if-o-ge-MAX_UNACKED.false;
-      used = c.used-at.ensures;
-      short = omega (arith, c.used-at.ensures, c.if-at-body.false, c.requires.small);
-    }
-
 pub returns : goal.returns
 returns c =
     joins c.args.body.now c.args.o c.args.store.now c.requires c.if-o-gt-LAST_MESSAGE.false c.if-o-ge-MAX_UNACKED.false (omega (arith, c.used-at.ensures, c.if-at-body.false, c.requires.small))

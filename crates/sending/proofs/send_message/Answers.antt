@@ -1,5 +1,4 @@
 use Rattle.peer_session.proofs.View.{parts}
-use native.Mathlib.Omega.{arith}
 use mathlib.Core.Path.{sym, ◌∙◌}
 use Rattle.sending.proofs.Sends.{list-short, outbound-short, unsound, exhausted, refused, went}
 use Rattle.sending.proofs.send_message.Goals as goal
@@ -18,9 +17,6 @@ returns-then-s-ge-GENERATION_LIMIT c = λ d q lq. exhausted c.args.s c.args.list
 
 pub allocate-requires : goal.allocate-requires
 allocate-requires c = (parts c.args.s (sym c.sound.ensures.is ∙ c.if-not-sound.false) c.sound.ensures.full).unacked c.args.outbound.now c.if-outbound-lt-OUTBOUND_BYTES.false
-
-pub request-n-requires : goal.request-n-requires
-request-n-requires c = omega (arith, c.if-list-lt-EVENT_WORDS.false)
 
 pub returns-in-Ok : goal.returns-in-Ok
 returns-in-Ok c = λ d q lq. went c.args.s c.args.list.now c.args.outbound.now c.args.body.now d q c.if-list-lt-EVENT_WORDS.false c.if-outbound-lt-OUTBOUND_BYTES.false (sym c.sound.ensures.is ∙ c.if-not-sound.false) c.sound.ensures.full lq c.if-s-ge-GENERATION_LIMIT.false c.in-Ok.ensures c.request-n.ensures

@@ -1,13 +1,5 @@
-use lib.Seq.{length-take-le}
-use mathlib.Core.Path.{sym}
 use Rattle.setup.proofs.Steps.{rejection_stopped, rejected}
 use Rattle.setup.proofs.send_reject.Goals as goal
-
-pub slice_bounds-bytes-end : goal.slice_bounds-bytes-end
-slice_bounds-bytes-end c = c.requires.2
-
-pub slice_bounds-join-end : goal.slice_bounds-join-end
-slice_bounds-join-end c = sym (length-take-le c.args.s.reject.len c.args.s.reject.bytes c.requires.2)
 
 pub returns-in-Ok : goal.returns-in-Ok
 returns-in-Ok c = rejected c.in-Ok.ensures c.done.ensures
