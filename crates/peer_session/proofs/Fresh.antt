@@ -17,9 +17,9 @@ use Rattle.queue.specs.View.{len_q, frame, frames_of}
 use Rattle.peer_session.specs.declared.Stage.{Stage}
 use Rattle.peer_session.specs.declared.RejectBody.{RejectBody}
 use Rattle.peer_session.specs.declared.SessionState.{SessionState}
-use Rattle.peer_session.specs.View.{held, handoff_of, stage_of, reject_of, state_of}
-use Rattle.peer_session.specs.New.{New, nothing, NoMessages}
-use Rattle.peer_session.proofs.Held.{outbox_cong, inbox_cong, stage_cong, fixed_cong, state_cong, agree}
+use Rattle.peer_session.specs.View.{handoff_of, stage_of, reject_of, state_of}
+use Rattle.peer_session.specs.New.{New}
+use Rattle.peer_session.proofs.Held.{outbox_cong, inbox_cong, stage_cong, fixed_cong, state_cong}
 
 module _ {x : Outbox} {remote disposition : ℕ} {policy : Policy} {reject : RejectBody} {r : SessionState} (n : New x remote disposition policy reject r) where
   no_handoff : handoff_of r.handoff ≡ none

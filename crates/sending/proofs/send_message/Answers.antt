@@ -1,5 +1,4 @@
 use Rattle.peer_session.proofs.View.{parts}
-use native.Mathlib.Omega.{arith}
 use mathlib.Core.Path.{sym, ◌∙◌}
 use Rattle.sending.proofs.Sends.{list-short, outbound-short, unsound, exhausted, refused, went}
 use Rattle.sending.proofs.send_message.Goals as goal

@@ -1,5 +1,3 @@
-use lib.Seq.{length-take-le}
-use mathlib.Core.Path.{sym}
 use Rattle.setup.proofs.Steps.{rejection_stopped, rejected}
 use Rattle.setup.proofs.send_reject.Goals as goal
 
