@@ -5,10 +5,10 @@ use Rattle.delivery.specs.Turns.{lent_frame}
 use Rattle.delivery.proofs.Steps.{did_stays, did_consumed, rejection_first, rejection_another}
 use Rattle.delivery.proofs.consume_rejection.Goals as goal
 
-pub returns-then-f-eq1-2 : goal.returns-then-f-eq1-2
-returns-then-f-eq1-2 c d =
+pub returns-then-f : goal.returns-then-f
+returns-then-f c d =
     let f = lent_frame c.args.f in
-    did_consumed f c.requires.mode (λ st. rejection_first f st c.if-f-eq1.true c.if-f-eq1-2.true) (omega arith) (c.answer_proposal.ensures d)
+    did_consumed f c.requires.mode (λ st. rejection_first f st c.if-f-eq1.true c.if-f.true) (omega arith) (c.answer_proposal.ensures d)
 
 pub returns : goal.returns
 returns c d =
