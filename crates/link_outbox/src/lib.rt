@@ -16,7 +16,7 @@ ghost use Rattle.link_outbox.specs.Steps.{Joins, Marks, Frees, Drops, Shifted, F
 ghost use Rattle.link_outbox.specs.Tests.{fall, falls, Steps, low, stayer, Bounded, Sought};
 
 use outbox::Place;
-use parts::{Bytes, Halves, Words, size, wide};
+use parts::{Bytes, Halves, Words};
 use rules::EventCode;
 
 // ---- whether they are such as calls leave
