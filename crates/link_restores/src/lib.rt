@@ -16,7 +16,7 @@ ghost use Rattle.link_restores.specs.Restores.{Ready, Enters};
 use parts::{Bytes, Halves, LinkAnswer, Words};
 use peer_session::SessionState;
 use restores::Handoff;
-use rules::Refusal;
+use rules::{Disposition, Refusal};
 use starts::Reliable;
 
 // ---- the handoff
@@ -103,7 +103,7 @@ fn enters(
     if starts::short_record(numbers, lengths, bodies) {
         return Err(Refusal::ShortBuffer);
     }
-    if 4 < record.disposition {
+    if record.disposition > Disposition::OutboundReject as u64 {
         return Err(Refusal::UnknownCode);
     }
     if !link_sound::sound(words, halves, bytes) {

@@ -1,3 +1,4 @@
+use mathlib.Core.Path.{refl}
 use native.Mathlib.Omega.{arith}
 use Rattle.delivery.proofs.Drains.{next_small, out_empty, out_unavailable}
 use Rattle.link_delivery.proofs.Turns.{summing, turns_in, ends_in, later_in, reaches_in, on_in, ready_body, undeliverable_in, refused_in, more_in}
@@ -27,25 +28,25 @@ returns-then-not-available c =
 
 pub part-body-requires : goal.part-body-requires
 part-body-requires c =
-    let r = reaches_in c.loop-i.invariant c.loop-i-test.true c.size-len.ensures in
+    let r = reaches_in c.loop-i.invariant c.loop-i-test.true refl in
     (omega arith, omega arith)
 
 pub deliver-requires : goal.deliver-requires
-deliver-requires c = ready_body c.loop-i.invariant c.loop-i-test.true c.size-len.ensures c.part-body.ensures
+deliver-requires c = ready_body c.loop-i.invariant c.loop-i-test.true refl c.part-body.ensures
 
 pub returns-in-Err : goal.returns-in-Err
 returns-in-Err c =
     let v = c.loop-i.invariant in
     ends_in v
-    (refused_in v c.loop-i-test.true c.if-number-step.false c.size-len.ensures c.if-not-available.ensures c.if-not-deliverable.ensures c.part-body.ensures c.in-Err.ensures)
+    (refused_in v c.loop-i-test.true c.if-number-step.false refl c.if-not-available.ensures c.if-not-deliverable.ensures c.part-body.ensures c.in-Err.ensures)
     c.leave-in-Err.ensures
 
 pub overflow_add-start : goal.overflow_add-start
-overflow_add-start c = omega (arith, on_in c.loop-i.invariant c.loop-i-test.true c.size-len.ensures)
+overflow_add-start c = omega (arith, on_in c.loop-i.invariant c.loop-i-test.true refl)
 
 pub loop-i-preserved : goal.loop-i-preserved
 loop-i-preserved c =
-    more_in c.loop-i.invariant c.loop-i-test.true c.if-number-step.false c.size-len.ensures c.if-not-available.ensures c.if-not-deliverable.ensures c.part-body.ensures c.in-Ok.ensures
+    more_in c.loop-i.invariant c.loop-i-test.true c.if-number-step.false refl c.if-not-available.ensures c.if-not-deliverable.ensures c.part-body.ensures c.in-Ok.ensures
     c.deliver.auto.list c.deliver.auto.delivery
 
 pub returns : goal.returns

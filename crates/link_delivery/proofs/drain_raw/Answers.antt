@@ -16,26 +16,26 @@ pub overflow_add-remote : goal.overflow_add-remote
 overflow_add-remote c = omega (arith, raw_next c.loop-i.invariant.raw c.loop-i-test.true)
 
 pub overflow_add-generation : goal.overflow_add-generation
-overflow_add-generation c = omega (arith, (raw_room c.loop-i.invariant.raw c.loop-i-test.true c.size-len.ensures).slow)
+overflow_add-generation c = omega (arith, (raw_room c.loop-i.invariant.raw c.loop-i-test.true refl).slow)
 
 pub hand_over-events-requires : goal.hand_over-events-requires
 hand_over-events-requires c =
-    let r = raw_room c.loop-i.invariant.raw c.loop-i-test.true c.size-len.ensures in
+    let r = raw_room c.loop-i.invariant.raw c.loop-i-test.true refl in
     (r.reaches, r.room, r.bytes)
 
 pub overflow_add-at : goal.overflow_add-at
 overflow_add-at c =
-    let r = raw_room c.loop-i.invariant.raw c.loop-i-test.true c.size-len.ensures in
+    let r = raw_room c.loop-i.invariant.raw c.loop-i-test.true refl in
     omega (arith, r.bytes, c.loop-i.invariant.raw.delivery, c.well_formed, c.ranges)
 
 pub overflow_add-start : goal.overflow_add-start
-overflow_add-start c = omega (arith, (raw_room c.loop-i.invariant.raw c.loop-i-test.true c.size-len.ensures).short)
+overflow_add-start c = omega (arith, (raw_room c.loop-i.invariant.raw c.loop-i-test.true refl).short)
 
 pub loop-i-preserved : goal.loop-i-preserved
 loop-i-preserved c =
     let g = c.hand_over-events in
     record {
-      raw = raw_more c.loop-i.invariant.raw c.loop-i-test.true c.size-len.ensures c.if-number-remote.false refl g.ensures g.auto.list g.auto.delivery;
+      raw = raw_more c.loop-i.invariant.raw c.loop-i-test.true refl c.if-number-remote.false refl g.ensures g.auto.list g.auto.delivery;
       whole = c.loop-i.invariant.whole;
     }
 

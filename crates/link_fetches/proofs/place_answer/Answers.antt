@@ -9,4 +9,4 @@ pub returns-in-Some : goal.returns-in-Some
 returns-in-Some c = c.answer_of.ensures ∙ sym (ap (λ (p : Option Place). answer_of (Records.answer_of p) 0) c.in-Some.is)
 
 pub returns-in-None : goal.returns-in-None
-returns-in-None c = c.answer_of.ensures ∙ sym (ap (λ (p : Option Place). answer_of (Records.answer_of p) 0) c.in-None.is)
+returns-in-None c = c.answer_of-in-None.ensures ∙ sym (ap (λ (p : Option Place). answer_of (Records.answer_of p) 0) c.in-None.is)
