@@ -21,6 +21,7 @@ pub fn dirty(words: &Words, halves: &Halves, bytes: &Bytes, clock: &f64) -> bool
 }
 
 // Whether a setup waits or has started.
+#[tactic(auto, unfolding(parts::specs::Parts::opened_of))]
 pub fn accepted(words: &Words, halves: &Halves, bytes: &Bytes, clock: &f64) -> bool
     ensures { (o q : Bytes) → result ≡ accepted (state_of (opened_of (parts words.now halves.now bytes.now clock.now)) o q) }
 {
@@ -29,6 +30,7 @@ pub fn accepted(words: &Words, halves: &Halves, bytes: &Bytes, clock: &f64) -> b
 }
 
 // Whether the setup is retired.
+#[tactic(auto, unfolding(parts::specs::Parts::opened_of))]
 pub fn retired(words: &Words, halves: &Halves, bytes: &Bytes, clock: &f64) -> bool
     ensures { (o q : Bytes) → result ≡ is_retired (state_of (opened_of (parts words.now halves.now bytes.now clock.now)) o q) }
 {
