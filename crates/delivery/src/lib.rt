@@ -49,7 +49,8 @@ pub struct Frame<'a> {
     pub body: &'a [u8],
 }
 
-// The step that a drain ended at, with the acks that wait, how many frames were taken from the front of the queue, and the refusal that ended it.
+// The step that a drain ended at, with the acks that wait, how many frames were taken from the front of the queue, and the refusal that ended it. An
+// Option beside the step, and no Result: what was delivered before the refusal stands.
 #[derive(Clone, Copy)]
 pub struct Drained {
     pub step: Step,
@@ -229,11 +230,23 @@ pub fn available(t: Turn, status: HostStatus) -> bool
     }
 }
 
-// Proposal mode takes message 1 and rejects.
+// Proposal mode takes message 1 and rejects. It takes no Frame: the drain asks before it cuts out a body.
 pub fn deliverable(t: Turn, number: u64, kind: u8) -> bool
     ensures { Deliverable number kind t result }
 {
     t.mode != ReceiveMode::Proposal || number == 1 || kind == BodyKind::Reject as u8
+}
+
+// The drain ends at the frame that is not taken.
+fn leave(step: Step, waiting: Numbers, taken: usize, stop: Option<Refusal>) -> Drained
+    ensures { result ≡ drained_by step.turn waiting taken step.events step.at stop }
+{
+    Drained {
+        step,
+        waiting,
+        taken,
+        stop,
+    }
 }
 
 // From frame `from` of the queue on, for as long as the host is available and the next message is there and deliverable. Its ack has the highest
@@ -260,12 +273,7 @@ pub fn drain(
             || u.number != step.turn.remote + 1
             || !deliverable(step.turn, u.number, u.kind)
         {
-            return Drained {
-                step,
-                waiting,
-                taken: i,
-                stop: None,
-            };
+            return leave(step, waiting, i, None);
         }
         let len = u.len as usize;
         let f = Frame {
@@ -275,23 +283,11 @@ pub fn drain(
         };
         match deliver(step, list, delivery, f) {
             Ok(next) => step = next,
-            Err(x) => {
-                return Drained {
-                    step,
-                    waiting,
-                    taken: i,
-                    stop: Some(x),
-                };
-            }
+            Err(x) => return leave(step, waiting, i, Some(x)),
         }
         waiting.values[waiting.count] = u.number;
         waiting.count += 1;
         start += len;
     }
-    Drained {
-        step,
-        waiting,
-        taken: q.count,
-        stop: None,
-    }
+    leave(step, waiting, q.count, None)
 }

@@ -1,7 +1,7 @@
 // The part of receiving that data and consumer ready share: a turn begins at a session, the queue is drained, and what came of it is stored.
 #![tactic(auto)]
 
-ghost use Rattle.std.specs.Prelude.{◌≡◌, false, ◌+◌, ◌*◌, ◌≤◌, length, take};
+ghost use Rattle.std.specs.Prelude.{◌≡◌, ◌+◌, ◌*◌, ◌≤◌, length, take};
 ghost use Rattle.outbox.specs.Steps.{Room, Appended};
 ghost use Rattle.queue.specs.View.{ExactQueue};
 ghost use Rattle.peer_session.specs.View.{reject_of};

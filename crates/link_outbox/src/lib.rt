@@ -304,7 +304,7 @@ fn lower_if(stays: bool, store: &mut [u8], to: usize, from: usize, n: usize) -> 
     if to == from {
         return to + n;
     }
-    stores::move_down(store, to, from, n);
+    stores::move_run(store, to, from, n);
     to + n
 }
 
@@ -380,7 +380,7 @@ fn shed(words: &mut Words, halves: &mut Halves, bytes: &mut Bytes, store: &mut [
     let end = used(halves, count);
     let to = end - from;
     let left = count - k;
-    stores::move_down(store, 0, from, to);
+    stores::move_run(store, 0, from, to);
     stores::clear(store, to, end);
     lower_records(halves, bytes, k, left);
     words[parts::UNACKED] = left as u64;

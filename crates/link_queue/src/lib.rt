@@ -112,7 +112,7 @@ fn raise_bodies(store: &mut [u8], from: usize, end: usize, n: usize)
     if n == 0 {
         return;
     }
-    stores::move_up(store, from + n, from, end - from);
+    stores::move_run(store, from + n, from, end - from);
 }
 
 // A frame goes in at index k; the later ones, and their bytes, move up.
@@ -181,7 +181,7 @@ fn lower_bodies(store: &mut [u8], from: usize, end: usize)
         return;
     }
     let n = end - from;
-    stores::move_down(store, 0, from, n);
+    stores::move_run(store, 0, from, n);
     stores::clear(store, n, end);
 }
 

@@ -1,16 +1,15 @@
 // Sets of numbers: rising arrays, with a count. The acks that wait for a commit, and those to be sent again.
 #![tactic(auto)]
 
-ghost use Rattle.std.specs.Prelude.{◌≡◌, ◌++◌, ◌∷◌, [], map, ◌+◌, ◌-◌, ◌*◌, ◌≤◌, ◌<◌, length, take, drop, ltb};
+ghost use Rattle.std.specs.Prelude.{◌≡◌, ◌++◌, ◌∷◌, [], map, ◌+◌, ◌*◌, ◌≤◌, ◌<◌, length, take, drop};
 ghost use Rattle.std.proofs.Math.Seq.{slice};
-ghost use Rattle.stores.specs.Placed.{placed};
 ghost use Rattle.rules.specs.Lists.{itself, has, put, all, rising, kept};
 ghost use Rattle.rules.specs.Acks.{differs_from};
 ghost use Rattle.rules.specs.Commits.{releases_ack};
 ghost use Rattle.rules.specs.Events.{send_ack};
 ghost use Rattle.rules.specs.Sound.{at_most, ascending};
 ghost use Rattle.events.specs.Written.{Listed};
-ghost use Rattle.numbers.specs.Seats.{in_use, seat_of, step, Holds, ReleasesAcks};
+ghost use Rattle.numbers.specs.Seats.{in_use, seat_of, Holds, ReleasesAcks};
 
 use rules::EventCode;
 
@@ -90,7 +89,7 @@ fn put_at(v: Numbers, n: u64, at: usize) -> Numbers
     ensures { Holds (take at (in_use v) ++ (n ∷ drop at (in_use v))) result }
 {
     let mut values = v.values;
-    stores::move_up(&mut values, at + 1, at, v.count - at);
+    stores::move_run(&mut values, at + 1, at, v.count - at);
     values[at] = n;
     Numbers {
         values,

@@ -1,7 +1,7 @@
 // The unacked messages: records by rising number in an array, their bodies packed in the outbound store that the caller lends.
 #![tactic(auto)]
 
-ghost use Rattle.std.specs.Prelude.{◌≡◌, Bool, true, false, ◌∷◌, [], ◌+◌, ◌*◌, ◌≤◌, ◌<◌, length, take, drop};
+ghost use Rattle.std.specs.Prelude.{◌≡◌, true, [], ◌+◌, ◌*◌, ◌≤◌, ◌<◌, length, take, drop};
 ghost use Rattle.stores.specs.Placed.{placed};
 ghost use Rattle.rules.specs.Lists.{kept};
 ghost use Rattle.rules.specs.Acks.{survives, sent};
@@ -55,7 +55,7 @@ pub fn admits_unacked(u: Unacked, last: u64, sum: usize, next: u64) -> bool
     requires { sum ≤ 65536 }
     ensures { result ≡ admits_unacked next last sum u }
 {
-    let n = u.number as u64;
+    let n = u64::from(u.number);
     if n <= last {
         return false;
     }
@@ -75,7 +75,7 @@ pub fn sound_unacked(o: Outbox) -> bool
         if !admits_unacked(u, last, sum, o.next) {
             return false;
         }
-        last = u.number as u64;
+        last = u64::from(u.number);
         sum += u.len as usize;
     }
     true
@@ -130,7 +130,7 @@ pub fn append(o: Outbox, store: &mut [u8], at: usize, body: &[u8]) -> Outbox
 pub fn keeps(u: Unacked, ack: u64) -> bool
     ensures { result ≡ survives_u ack u }
 {
-    let n = u.number as u64;
+    let n = u64::from(u.number);
     if ack < n {
         return true;
     }
@@ -148,7 +148,7 @@ fn lower(store: &mut [u8], to: usize, from: usize, n: usize)
     if to == from {
         return;
     }
-    stores::move_down(store, to, from, n);
+    stores::move_run(store, to, from, n);
 }
 
 // Where the body of the next record goes, by whether this one stays: if so, its body has moved down.
@@ -210,9 +210,9 @@ fn send_if(goes: bool, u: Unacked, list: &mut [u64], n: usize, at: usize) -> usi
             list,
             n,
             EventCode::SendData as u64,
-            u.number as u64,
+            u64::from(u.number),
             at as u64,
-            u.len as u64,
+            u64::from(u.len),
         );
         return n + 1;
     }
@@ -223,7 +223,7 @@ fn send_if(goes: bool, u: Unacked, list: &mut [u64], n: usize, at: usize) -> usi
 pub fn releases(u: Unacked, upto: u64) -> bool
     ensures { result ≡ releases_u upto u }
 {
-    let n = u.number as u64;
+    let n = u64::from(u.number);
     if !u.pending {
         return false;
     }
@@ -280,7 +280,7 @@ pub fn replay(o: Outbox, list: &mut [u64], n: usize) -> usize
 fn sent_one(u: Unacked, number: u64) -> Unacked
     ensures { result ≡ sent_u number u }
 {
-    let n = u.number as u64;
+    let n = u64::from(u.number);
     if n == number {
         let mut r = u;
         r.unsent = false;
@@ -309,7 +309,7 @@ pub fn locate(o: Outbox, number: u64) -> Option<Place>
     let mut start = 0;
     for u in &o.records[..o.count] {
         let len = u.len as usize;
-        if u.number as u64 == number {
+        if u64::from(u.number) == number {
             return Some(Place { start, len });
         }
         start += len;

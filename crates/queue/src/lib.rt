@@ -1,8 +1,7 @@
 // The frames that came too early: records by rising number in an array, their bodies packed in the queue store that the caller lends.
 #![tactic(auto)]
 
-ghost use Rattle.std.specs.Prelude.{◌≡◌, [], ◌+◌, ◌-◌, ◌≤◌, ◌<◌, length, take, drop};
-ghost use Rattle.stores.specs.Placed.{placed};
+ghost use Rattle.std.specs.Prelude.{◌≡◌, [], ◌≤◌, ◌<◌, length, take, drop};
 ghost use Rattle.rules.specs.Lists.{Bytes, any, put, total};
 ghost use Rattle.rules.specs.State.{is_frame, frame_number};
 ghost use Rattle.queue.specs.View.{len_q, used_q, end_q, frames_of, ExactQueue, Repacked};
@@ -136,10 +135,10 @@ pub fn insert_at(q: Queue, store: &mut [u8], at: usize, number: u64, kind: u8, b
     let n = body.len();
     let from = start(q, at);
     let end = used(q);
-    stores::move_up(store, from + n, from, end - from);
+    stores::move_run(store, from + n, from, end - from);
     stores::copy_in(store, from, body);
     let mut records = q.records;
-    stores::move_up(&mut records, at + 1, at, q.count - at);
+    stores::move_run(&mut records, at + 1, at, q.count - at);
     records[at] = Queued {
         number,
         len: n as u32,
@@ -170,11 +169,11 @@ pub fn drop_front(q: Queue, store: &mut [u8], k: usize) -> Queue
     let from = start(q, k);
     let end = used(q);
     let n = end - from;
-    stores::move_down(store, 0, from, n);
+    stores::move_run(store, 0, from, n);
     stores::clear(store, n, end);
     let left = q.count - k;
     let mut records = q.records;
-    stores::move_down(&mut records, 0, k, left);
+    stores::move_run(&mut records, 0, k, left);
     Queue {
         records,
         count: left,

@@ -1,7 +1,7 @@
 // Starting a session from a record: the Rust's `Session::new` with the checks of the record.
 #![tactic(auto)]
 
-ghost use Rattle.std.specs.Prelude.{◌≡◌, false, ◌&&◌, ◌≤◌, length, take, leb};
+ghost use Rattle.std.specs.Prelude.{◌≡◌, ◌&&◌, ◌≤◌, length, take, leb};
 ghost use Rattle.rules.specs.Lists.{total, itself, all, rising};
 ghost use Rattle.rules.specs.Start.{good_policy, good_reject, start};
 ghost use Rattle.rules.specs.Buffers.{filled};
@@ -285,7 +285,7 @@ pub fn policy(gap: u64, messages: usize, bytes: usize, body: usize) -> Policy
     }
 }
 
-// The policy of a class, if it is one of the four.
+// The policy of a class, if it is one of the four. Kept a match: a table would want the class narrowed to an index first, and read no plainer.
 #[tactic(auto, unfolding(rules::specs::Start::link_class))]
 pub fn link_class(class: u64) -> Option<Policy>
     ensures { result ≡ option_of (link_class class) }

@@ -13,11 +13,11 @@ pub returns-then-not-available : goal.returns-then-not-available
 returns-then-not-available c =
     let v = c.loop-i.invariant in
     let l = c.loop-i-test.true in
-    elim c.then-not-available.branch [
+    rw c.leave.ensures (elim c.then-not-available.branch [
       | then-not-available-via-then-not-available w ↦ out_unavailable v w.if-not-available.ensures
       | then-not-available-via-else-not-available+then-u-step w ↦ out_later v l w.if-u-step.true
       | then-not-available-via-else-not-available+else-u-step+then-not-deliverable w ↦ out_undeliverable v l w.if-u-step.false w.if-not-deliverable.ensures
-    ]
+    ])
 
 pub part-requires : goal.part-requires
 part-requires c =
@@ -31,7 +31,7 @@ pub returns-in-Err : goal.returns-in-Err
 returns-in-Err c =
     let v = c.loop-i.invariant in
     let l = c.loop-i-test.true in
-    out_refused v l c.if-u-step.false c.if-not-available.ensures c.if-not-deliverable.ensures (lying v l c.part.ensures c.in-Err.ensures)
+    rw c.leave-in-Err.ensures (out_refused v l c.if-u-step.false c.if-not-available.ensures c.if-not-deliverable.ensures (lying v l c.part.ensures c.in-Err.ensures))
 
 pub overflow_add-start : goal.overflow_add-start
 overflow_add-start c = omega (arith, on-small c.loop-i.invariant c.loop-i-test.true)
@@ -44,4 +44,4 @@ loop-i-preserved c =
     c.deliver.auto.list c.deliver.auto.delivery
 
 pub returns : goal.returns
-returns c = out_empty c.loop-i.invariant c.loop-i-test.false
+returns c = rw c.leave-2.ensures (out_empty c.loop-i.invariant c.loop-i-test.false)

@@ -13,4 +13,4 @@ pub returns-then-to-from : goal.returns-then-to-from
 returns-then-to-from c = let a = c.args in lowered a.stays a.to a.from a.n a.store.now (c.if-not-stays.false) (placed_same a.store.now a.to a.n (search rules) ∙ ap (λ (k : ℕ). placed a.store.now a.to (take a.n (drop k a.store.now))) c.if-to-from.true)
 
 pub returns : goal.returns
-returns c = let a = c.args in lowered a.stays a.to a.from a.n a.store.now (c.if-not-stays.false) c.move_down.ensures
+returns c = let a = c.args in lowered a.stays a.to a.from a.n a.store.now (c.if-not-stays.false) c.move_run.ensures

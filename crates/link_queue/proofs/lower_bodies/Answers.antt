@@ -12,4 +12,4 @@ returns-then-from-eq0 c =
 
 pub returns : goal.returns
 returns c =
-    c.clear.ensures ∙ ap (λ (s : List ℕ). placed s (c.args.end - c.args.from) (replicate (c.args.end - (c.args.end - c.args.from)) 0)) c.move_down.ensures
+    c.clear.ensures ∙ ap (λ (s : List ℕ). placed s (c.args.end - c.args.from) (replicate (c.args.end - (c.args.end - c.args.from)) 0)) c.move_run.ensures

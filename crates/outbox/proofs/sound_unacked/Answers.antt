@@ -20,7 +20,7 @@ loop-u-preserved c =
     let admits : admits_unacked c.args.o.next c.loop-u.last c.loop-u.sum (get_or (used_u c.args.o) c.loop-u.u-index blank_u) ≡ true = sym c.admits_unacked.ensures ∙ c.if-not-admits_unacked.false in
     let room : (get_or (used_u c.args.o) c.loop-u.u-index blank_u).len ≤ 65536 - c.loop-u.sum = (admits_facts c.args.o.next c.loop-u.last c.loop-u.sum (get_or (used_u c.args.o) c.loop-u.u-index blank_u) admits).room in (
       omega (arith, room),
-      sym (admitted-on num_u len_u (admits_unacked c.args.o.next) (used_u c.args.o) c.loop-u.u-index _ blank_u c.loop-u-test.true (omega arith) c.loop-u.last c.loop-u.sum admits) ∙ c.loop-u.invariant.1,
+      rw c.from-last.ensures (sym (admitted-on num_u len_u (admits_unacked c.args.o.next) (used_u c.args.o) c.loop-u.u-index _ blank_u c.loop-u-test.true (omega arith) c.loop-u.last c.loop-u.sum admits) ∙ c.loop-u.invariant.1),
     )
 
 pub returns : goal.returns

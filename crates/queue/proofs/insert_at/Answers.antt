@@ -10,13 +10,13 @@ overflow_add-from c = let within : c.start-from.result ≤ c.used-end.result = o
 pub overflow_sub-end : goal.overflow_sub-end
 overflow_sub-end c = let within : c.start-from.result ≤ c.used-end.result = omega (arith, c.used-end.ensures, c.start-from.ensures, start-within c.args.q c.args.at) in omega (arith, within)
 
-pub move_up-requires : goal.move_up-requires
-move_up-requires c = let within : c.start-from.result ≤ c.used-end.result = omega (arith, c.used-end.ensures, c.start-from.ensures, start-within c.args.q c.args.at) in omega (arith, within, c.used-end.ensures, c.requires.short, c.requires.exact.room)
+pub move_run-requires : goal.move_run-requires
+move_run-requires c = let within : c.start-from.result ≤ c.used-end.result = omega (arith, c.used-end.ensures, c.start-from.ensures, start-within c.args.q c.args.at) in omega (arith, within, c.used-end.ensures, c.requires.short, c.requires.exact.room)
 
 pub copy_in-requires : goal.copy_in-requires
-copy_in-requires c = let within : c.start-from.result ≤ c.used-end.result = omega (arith, c.used-end.ensures, c.start-from.ensures, start-within c.args.q c.args.at) in omega (arith, within, c.used-end.ensures, c.requires.short, c.requires.exact.room, c.move_up.auto.store)
+copy_in-requires c = let within : c.start-from.result ≤ c.used-end.result = omega (arith, c.used-end.ensures, c.start-from.ensures, start-within c.args.q c.args.at) in omega (arith, within, c.used-end.ensures, c.requires.short, c.requires.exact.room, c.move_run.auto.store)
 
 pub returns : goal.returns
 returns c =
     inserted c.args.q c.args.store.now c.args.at (arrived c.args.number c.args.kind c.args.body.now) c.requires c.start-from.result c.used-end.result c.start-from.ensures c.used-end.ensures
-    c.move_up.new.store c.copy_in.new.store c.move_up-2.new.store c.move_up.ensures c.copy_in.ensures c.move_up-2.ensures
+    c.move_run.new.store c.copy_in.new.store c.move_run-2.new.store c.move_run.ensures c.copy_in.ensures c.move_run-2.ensures

@@ -1,6 +1,9 @@
-use native.Mathlib.Omega.{arith}
-use Rattle.stores.proofs.Laws.{put_mid-placed}
+use mathlib.Core.Path.{refl}
+use Rattle.stores.proofs.Runs.{run_more, run-all}
 use Rattle.stores.proofs.copy_in.Goals as goal
 
+pub loop-j-preserved : goal.loop-j-preserved
+loop-j-preserved g c = rw c.index-body-j.is (run_more c.loop-j.invariant c.index-body-j.result _ c.loop-j-test.true refl)
+
 pub returns : goal.returns
-returns g c = rw c.copy_from_slice.ensures.after (put_mid-placed _ _ _ _ (omega arith))
+returns g c = run-all c.loop-j.invariant c.loop-j-test.false

@@ -1,6 +1,0 @@
-use lib.ListN.{take, drop}
-use Rattle.stores.proofs.Runs.{Down}
-use Rattle.stores.proofs.move_up.Given as goal
-
-abbrev pub invariant-loop-j : goal.invariant-loop-j
-invariant-loop-j g l = Down l.initial.store l.to (take l.n (drop l.from l.initial.store)) l.n l.store l.j
