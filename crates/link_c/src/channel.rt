@@ -9,7 +9,7 @@ ghost use Rattle.parts.specs.Driven.{Driven};
 use parts::{Bytes, Halves, LinkAnswer, Words};
 use restores::Handoff;
 use rules::Terms;
-use starts::Reliable;
+use starts::{Record, Reliable};
 
 // A proposal is accepted, or made.
 #[unsafe(no_mangle)]
@@ -110,7 +110,13 @@ pub extern "C" fn link_restore(
 ) -> LinkAnswer
     ensures { Driven (parts words.old halves.old bytes.old clock.now) (parts words.new halves.new bytes.new clock.now) result (λ s y. Restored «record» numbers.now lengths.now bodies.now given body.now s outbound.old y outbound.new) }
 {
+    let record = Record {
+        reliable: record,
+        numbers,
+        lengths,
+        bodies,
+    };
     link_restores::restore(
-        words, halves, bytes, clock, outbound, record, numbers, lengths, bodies, given, body,
+        words, halves, bytes, clock, outbound, record, given, body,
     )
 }

@@ -13,7 +13,7 @@ ghost use Rattle.link_c.specs.Forms.{link_policy_of};
 
 use parts::{Bytes, Halves, LinkAnswer, Words};
 use rules::Policy;
-use starts::Reliable;
+use starts::{Record, Reliable};
 
 pub mod channel; // a channel's setup and its end
 pub mod incoming; // messages and acks that come in
@@ -76,8 +76,13 @@ pub extern "C" fn link_start(
 ) -> LinkAnswer
     ensures { DrivenStart (parts words.old halves.old bytes.old clock.old) (parts words.new halves.new bytes.new clock.new) result (λ y. Started «record» numbers.now lengths.now bodies.now policy reject.now outbound.old queue.old y outbound.new queue.new) }
 {
+    let record = Record {
+        reliable: record,
+        numbers,
+        lengths,
+        bodies,
+    };
     link_starts::start(
-        words, halves, bytes, clock, record, numbers, lengths, bodies, policy, reject, outbound,
-        queue,
+        words, halves, bytes, clock, record, policy, reject, outbound, queue,
     )
 }

@@ -17,7 +17,7 @@ use parts::{Bytes, Halves, LinkAnswer, Words};
 use peer_session::SessionState;
 use restores::Handoff;
 use rules::{Disposition, Refusal};
-use starts::Reliable;
+use starts::Record;
 
 // ---- the handoff
 
@@ -88,28 +88,25 @@ fn enters(
     halves: &Halves,
     bytes: &Bytes,
     outbound: usize,
-    record: Reliable,
-    numbers: &[u64],
-    lengths: &[u64],
-    bodies: &[u8],
+    record: Record,
     given: Handoff,
     body: &[u8],
 ) -> Result<(), Refusal>
-    ensures { Enters «record» numbers.now lengths.now bodies.now given body.now words.now halves.now bytes.now outbound result }
+    ensures { Enters «record».entry.reliable «record».entry.numbers.now «record».entry.lengths.now «record».entry.bodies.now given body.now words.now halves.now bytes.now outbound result }
 {
     if outbound < SessionState::OUTBOUND_BYTES {
         return Err(Refusal::ShortBuffer);
     }
-    if starts::short_record(numbers, lengths, bodies) {
+    if starts::short_record(record) {
         return Err(Refusal::ShortBuffer);
     }
-    if record.disposition > Disposition::OutboundReject as u64 {
+    if record.reliable.disposition > Disposition::OutboundReject as u64 {
         return Err(Refusal::UnknownCode);
     }
     if !link_sound::sound(words, halves, bytes) {
         return Err(Refusal::BadRecord);
     }
-    if !starts::good_record(record, numbers, lengths) {
+    if !starts::good_record(record) {
         return Err(Refusal::BadRecord);
     }
     if SessionState::MAX_HANDOFF < peer_session::handoff_length(given.present, body.len()) {
@@ -130,19 +127,14 @@ fn goes(
     bytes: &mut Bytes,
     clock: &f64,
     outbound: &mut [u8],
-    record: Reliable,
-    numbers: &[u64],
-    lengths: &[u64],
-    bodies: &[u8],
+    record: Record,
     given: Handoff,
     body: &[u8],
 ) -> LinkAnswer
-    requires { Ready «record» numbers.now lengths.now bodies.now given body.now (parts words.old halves.old bytes.old clock.now) (length outbound.old) }
-    ensures { Driven (parts words.old halves.old bytes.old clock.now) (parts words.new halves.new bytes.new clock.now) result (λ s y. Restored «record» numbers.now lengths.now bodies.now given body.now s outbound.old y outbound.new) }
+    requires { Ready «record».reliable «record».numbers.now «record».lengths.now «record».bodies.now given body.now (parts words.old halves.old bytes.old clock.now) (length outbound.old) }
+    ensures { Driven (parts words.old halves.old bytes.old clock.now) (parts words.new halves.new bytes.new clock.now) result (λ s y. Restored «record».entry.reliable «record».entry.numbers.now «record».entry.lengths.now «record».entry.bodies.now given body.now s outbound.old y outbound.new) }
 {
-    link_starts::take(
-        words, halves, bytes, outbound, record, numbers, lengths, bodies,
-    );
+    link_starts::take(words, halves, bytes, outbound, record);
     if !agrees(words, bytes, given, body) {
         return link_codes::refusal(Refusal::OtherHandoff);
     }
@@ -150,38 +142,24 @@ fn goes(
     link_codes::done(0)
 }
 
-// A session takes a record, whose messages come as three lent slices, and a terminal handoff, whose body is lent.
+// A session takes a record and a terminal handoff, whose body is lent.
 pub fn restore(
     words: &mut Words,
     halves: &mut Halves,
     bytes: &mut Bytes,
     clock: &f64,
     outbound: &mut [u8],
-    record: Reliable,
-    numbers: &[u64],
-    lengths: &[u64],
-    bodies: &[u8],
+    record: Record,
     given: Handoff,
     body: &[u8],
 ) -> LinkAnswer
-    ensures { Driven (parts words.old halves.old bytes.old clock.now) (parts words.new halves.new bytes.new clock.now) result (λ s y. Restored «record» numbers.now lengths.now bodies.now given body.now s outbound.old y outbound.new) }
+    ensures { Driven (parts words.old halves.old bytes.old clock.now) (parts words.new halves.new bytes.new clock.now) result (λ s y. Restored «record».entry.reliable «record».entry.numbers.now «record».entry.lengths.now «record».entry.bodies.now given body.now s outbound.old y outbound.new) }
 {
-    let stop = enters(
-        words,
-        halves,
-        bytes,
-        outbound.len(),
-        record,
-        numbers,
-        lengths,
-        bodies,
-        given,
-        body,
-    );
+    let stop = enters(words, halves, bytes, outbound.len(), record, given, body);
     match stop {
         Err(x) => link_codes::refusal(x),
         Ok(()) => goes(
-            words, halves, bytes, clock, outbound, record, numbers, lengths, bodies, given, body,
+            words, halves, bytes, clock, outbound, record, given, body,
         ),
     }
 }

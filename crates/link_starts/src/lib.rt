@@ -13,18 +13,18 @@ ghost use Rattle.link_starts.specs.Starts.{head, Judged, FoundStart, BodyIn};
 use parts::{Bytes, Halves, LinkAnswer, Words};
 use peer_session::SessionState;
 use rules::{Policy, Refusal};
-use starts::Reliable;
+use starts::{Record, Reliable};
 
 // ---- the messages of a record
 
 // They are neither pending nor unsent.
-fn records(halves: &mut Halves, bytes: &mut Bytes, numbers: &[u64], lengths: &[u64])
-    requires { Fitting numbers.now lengths.now }
-    ensures { Written numbers.now lengths.now halves.old bytes.old halves.new bytes.new }
+fn records(halves: &mut Halves, bytes: &mut Bytes, record: Record)
+    requires { Fitting «record».numbers.now «record».lengths.now }
+    ensures { Written «record».entry.numbers.now «record».entry.lengths.now halves.old bytes.old halves.new bytes.new }
 {
-    for i in 0..numbers.len() {
-        halves[i] = numbers[i] as u32;
-        halves[parts::UNACKED_LENS + i] = lengths[i] as u32;
+    for i in 0..record.numbers.len() {
+        halves[i] = record.numbers[i] as u32;
+        halves[parts::UNACKED_LENS + i] = record.lengths[i] as u32;
         bytes[i] = 0;
         bytes[parts::UNSENT + i] = 0;
     }
@@ -36,22 +36,19 @@ pub fn take(
     halves: &mut Halves,
     bytes: &mut Bytes,
     outbound: &mut [u8],
-    record: Reliable,
-    numbers: &[u64],
-    lengths: &[u64],
-    bodies: &[u8],
+    record: Record,
 )
-    requires { TakingIn «record» numbers.now lengths.now bodies.now words.old halves.old bytes.old (length outbound.old) }
-    ensures { TakenIn «record» numbers.now lengths.now bodies.now words.old halves.old bytes.old outbound.old words.new halves.new bytes.new outbound.new }
+    requires { TakingIn «record».reliable «record».numbers.now «record».lengths.now «record».bodies.now words.old halves.old bytes.old (length outbound.old) }
+    ensures { TakenIn «record».entry.reliable «record».entry.numbers.now «record».entry.lengths.now «record».entry.bodies.now words.old halves.old bytes.old outbound.old words.new halves.new bytes.new outbound.new }
 {
     let end = link_outbox::used(halves, words[parts::UNACKED] as usize);
-    let n = starts::body_bytes(lengths, numbers.len());
-    restores::repack(outbound, bodies, n, end);
-    records(halves, bytes, numbers, lengths);
-    words[parts::NEXT] = record.message_number;
-    words[parts::UNACKED] = numbers.len() as u64;
-    words[parts::REMOTE] = record.remote_number;
-    bytes[parts::DISPOSITION] = record.disposition as u8;
+    let n = starts::body_bytes(record);
+    restores::repack(outbound, record.bodies, n, end);
+    records(halves, bytes, record);
+    words[parts::NEXT] = record.reliable.message_number;
+    words[parts::UNACKED] = record.numbers.len() as u64;
+    words[parts::REMOTE] = record.reliable.remote_number;
+    bytes[parts::DISPOSITION] = record.reliable.disposition as u8;
 }
 
 // ---- a start
@@ -60,14 +57,11 @@ pub fn take(
 fn judge(
     outbound: usize,
     queue: usize,
-    record: Reliable,
-    numbers: &[u64],
-    lengths: &[u64],
-    bodies: &[u8],
+    record: Record,
     policy: Policy,
     reject: &[u8],
 ) -> Result<(), Refusal>
-    ensures { FoundStart «record» numbers.now lengths.now bodies.now policy reject.now outbound queue result }
+    ensures { FoundStart «record».entry.reliable «record».entry.numbers.now «record».entry.lengths.now «record».entry.bodies.now policy reject.now outbound queue result }
 {
     if outbound < SessionState::OUTBOUND_BYTES {
         return Err(Refusal::ShortBuffer);
@@ -75,7 +69,7 @@ fn judge(
     if queue < SessionState::QUEUE_BYTES {
         return Err(Refusal::ShortBuffer);
     }
-    starts::judge(record, numbers, lengths, bodies, policy, reject)
+    starts::judge(record, policy, reject)
 }
 
 // The numbers of a new session before its arrays: nothing is queued, no ack waits and there is no handoff.
@@ -131,19 +125,23 @@ fn begin(
     halves: &mut Halves,
     bytes: &mut Bytes,
     clock: &mut f64,
-    record: Reliable,
-    numbers: &[u64],
-    lengths: &[u64],
+    record: Record,
     policy: Policy,
     reject: &[u8],
 )
-    requires { Beginning «record» numbers.now lengths.now reject.now }
-    ensures { Begun «record» numbers.now lengths.now policy reject.now (opened_of (parts words.new halves.new bytes.new clock.new)) }
+    requires { Beginning «record».reliable «record».numbers.now «record».lengths.now reject.now }
+    ensures { Begun «record».entry.reliable «record».entry.numbers.now «record».entry.lengths.now policy reject.now (opened_of (parts words.new halves.new bytes.new clock.new)) }
 {
-    records(halves, bytes, numbers, lengths);
-    put_head(words, record, numbers.len(), policy, reject.len());
+    records(halves, bytes, record);
+    put_head(
+        words,
+        record.reliable,
+        record.numbers.len(),
+        policy,
+        reject.len(),
+    );
     put_tail(halves);
-    put_middle(bytes, record.disposition as u8, reject);
+    put_middle(bytes, record.reliable.disposition as u8, reject);
     *clock = 0.0;
 }
 
@@ -153,61 +151,42 @@ fn starts_it(
     halves: &mut Halves,
     bytes: &mut Bytes,
     clock: &mut f64,
-    record: Reliable,
-    numbers: &[u64],
-    lengths: &[u64],
-    bodies: &[u8],
+    record: Record,
     policy: Policy,
     reject: &[u8],
     outbound: &mut [u8],
     queue: &mut [u8],
 ) -> LinkAnswer
-    requires { Judged «record» numbers.now lengths.now bodies.now policy reject.now (length outbound.old) (length queue.old) }
-    ensures { DrivenStart (parts words.old halves.old bytes.old clock.old) (parts words.new halves.new bytes.new clock.new) result (λ y. Started «record» numbers.now lengths.now bodies.now policy reject.now outbound.old queue.old y outbound.new queue.new) }
+    requires { Judged «record».reliable «record».numbers.now «record».lengths.now «record».bodies.now policy reject.now (length outbound.old) (length queue.old) }
+    ensures { DrivenStart (parts words.old halves.old bytes.old clock.old) (parts words.new halves.new bytes.new clock.new) result (λ y. Started «record».entry.reliable «record».entry.numbers.now «record».entry.lengths.now «record».entry.bodies.now policy reject.now outbound.old queue.old y outbound.new queue.new) }
 {
-    begin(
-        words, halves, bytes, clock, record, numbers, lengths, policy, reject,
-    );
-    let n = starts::body_bytes(lengths, numbers.len());
-    starts::fill(outbound, bodies, n);
+    begin(words, halves, bytes, clock, record, policy, reject);
+    let n = starts::body_bytes(record);
+    starts::fill(outbound, record.bodies, n);
     let end = queue.len();
     stores::clear(queue, 0, end);
     link_codes::done(0)
 }
 
-// A new session from a record whose messages come as three lent slices: numbers, lengths, and the bodies one after the other. A refused one leaves the
-// parts that were there.
+// A new session from a record. A refused one leaves the parts that were there.
 pub fn start(
     words: &mut Words,
     halves: &mut Halves,
     bytes: &mut Bytes,
     clock: &mut f64,
-    record: Reliable,
-    numbers: &[u64],
-    lengths: &[u64],
-    bodies: &[u8],
+    record: Record,
     policy: Policy,
     reject: &[u8],
     outbound: &mut [u8],
     queue: &mut [u8],
 ) -> LinkAnswer
-    ensures { DrivenStart (parts words.old halves.old bytes.old clock.old) (parts words.new halves.new bytes.new clock.new) result (λ y. Started «record» numbers.now lengths.now bodies.now policy reject.now outbound.old queue.old y outbound.new queue.new) }
+    ensures { DrivenStart (parts words.old halves.old bytes.old clock.old) (parts words.new halves.new bytes.new clock.new) result (λ y. Started «record».entry.reliable «record».entry.numbers.now «record».entry.lengths.now «record».entry.bodies.now policy reject.now outbound.old queue.old y outbound.new queue.new) }
 {
-    let stop = judge(
-        outbound.len(),
-        queue.len(),
-        record,
-        numbers,
-        lengths,
-        bodies,
-        policy,
-        reject,
-    );
+    let stop = judge(outbound.len(), queue.len(), record, policy, reject);
     match stop {
         Err(x) => link_codes::refusal(x),
         Ok(()) => starts_it(
-            words, halves, bytes, clock, record, numbers, lengths, bodies, policy, reject,
-            outbound, queue,
+            words, halves, bytes, clock, record, policy, reject, outbound, queue,
         ),
     }
 }

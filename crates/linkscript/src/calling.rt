@@ -3,7 +3,7 @@ use crate::reading::Call;
 use peer_session::SessionState;
 use rules::{Answer, PreparedCommit, Refusal};
 use session::Returned;
-use starts::Reliable;
+use starts::{Record, Reliable};
 
 // A session, the record that the next completion takes, and what its calls are lent: a body, and the stores.
 #[derive(Drop)]
@@ -26,7 +26,13 @@ fn start(message_number: u64, outbound: &mut [u8; 65536], queue: &mut [u8; 32768
     let Some(policy) = starts::link_class(2) else {
         return session::refused(SessionState::none(), Refusal::UnknownCode);
     };
-    starts::start(fresh, &[], &[], b"", policy, b"r", outbound, queue)
+    let record = Record {
+        reliable: fresh,
+        numbers: &[],
+        lengths: &[],
+        bodies: b"",
+    };
+    starts::start(record, policy, b"r", outbound, queue)
 }
 
 // As in `call_making`, which stands on more crates than this one, and is not listed for these few lines.

@@ -11,7 +11,7 @@ ghost use Rattle.restores.specs.Steps.{held_in, Handed, Taking, Takes, Ends};
 use peer_session::{SessionState, TerminalHandoff};
 use rules::{Answer, Disposition, Refusal};
 use session::Returned;
-use starts::Reliable;
+use starts::Record;
 
 // The Rust's `Option<TerminalHandoff>` but for its body, which comes as a lent slice: one that is not present is none, whatever its other fields.
 #[repr(C)]
@@ -43,21 +43,18 @@ pub fn repack(store: &mut [u8], bodies: &[u8], n: usize, end: usize)
 fn taken(
     s: SessionState,
     outbound: &mut [u8],
-    record: Reliable,
-    numbers: &[u64],
-    lengths: &[u64],
-    bodies: &[u8],
+    record: Record,
 ) -> SessionState
-    requires { Taking «record» numbers.now lengths.now bodies.now s (length outbound.old) }
-    ensures { Takes «record» numbers.now lengths.now bodies.now s outbound.old result outbound.new }
+    requires { Taking «record».reliable «record».numbers.now «record».lengths.now «record».bodies.now s (length outbound.old) }
+    ensures { Takes «record».entry.reliable «record».entry.numbers.now «record».entry.lengths.now «record».entry.bodies.now s outbound.old result outbound.new }
 {
     let old = s.outbox;
     let end = outbox::used(old);
-    let n = starts::body_bytes(lengths, numbers.len());
-    repack(outbound, bodies, n, end);
-    let outbox = starts::records(numbers, lengths, record.message_number);
-    let remote = record.remote_number;
-    let disposition = record.disposition as u8;
+    let n = starts::body_bytes(record);
+    repack(outbound, record.bodies, n, end);
+    let outbox = starts::records(record);
+    let remote = record.reliable.remote_number;
+    let disposition = record.reliable.disposition as u8;
     let mut r = s;
     r.outbox = outbox;
     r.remote = remote;
@@ -157,32 +154,29 @@ pub fn too_late(generation: u32, queued: usize, waiting: usize) -> bool
     waiting != 0
 }
 
-// A session takes a record, whose messages come as three lent slices, and a terminal handoff, whose body is lent. Refused by 31 it has taken the record.
+// A session takes a record and a terminal handoff, whose body is lent. Refused by 31 it has taken the record.
 pub fn restore(
     s: SessionState,
     outbound: &mut [u8],
-    record: Reliable,
-    numbers: &[u64],
-    lengths: &[u64],
-    bodies: &[u8],
+    record: Record,
     given: Handoff,
     body: &[u8],
 ) -> Returned
-    ensures { Restored «record» numbers.now lengths.now bodies.now given body.now s outbound.old result outbound.new }
+    ensures { Restored «record».entry.reliable «record».entry.numbers.now «record».entry.lengths.now «record».entry.bodies.now given body.now s outbound.old result outbound.new }
 {
     if outbound.len() < SessionState::OUTBOUND_BYTES {
         return session::refused(s, Refusal::ShortBuffer);
     }
-    if starts::short_record(numbers, lengths, bodies) {
+    if starts::short_record(record) {
         return session::refused(s, Refusal::ShortBuffer);
     }
-    if record.disposition > Disposition::OutboundReject as u64 {
+    if record.reliable.disposition > Disposition::OutboundReject as u64 {
         return session::refused(s, Refusal::UnknownCode);
     }
     if !peer_session::sound(s) {
         return session::refused(s, Refusal::BadRecord);
     }
-    if !starts::good_record(record, numbers, lengths) {
+    if !starts::good_record(record) {
         return session::refused(s, Refusal::BadRecord);
     }
     if SessionState::MAX_HANDOFF < peer_session::handoff_length(given.present, body.len()) {
@@ -191,6 +185,6 @@ pub fn restore(
     if too_late(s.clock.generation, s.queue.count, s.waiting.count) {
         return session::refused(s, Refusal::RestoreTooLate);
     }
-    let r = taken(s, outbound, record, numbers, lengths, bodies);
+    let r = taken(s, outbound, record);
     restore_terminal(r, given, body)
 }

@@ -24,6 +24,15 @@ pub struct Reliable {
     pub disposition: u64,
 }
 
+// With its messages: numbers, lengths, and the bodies one after the other.
+#[derive(Clone, Copy)]
+pub struct Record<'a> {
+    pub reliable: Reliable,
+    pub numbers: &'a [u64],
+    pub lengths: &'a [u64],
+    pub bodies: &'a [u8],
+}
+
 // ---- the checks of a record
 
 // Whether the first count lengths name no more than limit bytes: counted down, so that no sum can overflow.
@@ -42,14 +51,14 @@ fn fits(lengths: &[u64], count: usize, limit: usize) -> bool
 }
 
 // Refusal 1: fewer lengths than numbers, or fewer bytes than those lengths name.
-pub fn short_record(numbers: &[u64], lengths: &[u64], bodies: &[u8]) -> bool
-    ensures { result ≡ short_record numbers.now lengths.now bodies.now }
+pub fn short_record(record: Record) -> bool
+    ensures { result ≡ short_record «record».entry.numbers.now «record».entry.lengths.now «record».entry.bodies.now }
 {
-    let count = numbers.len();
-    if lengths.len() < count {
+    let count = record.numbers.len();
+    if record.lengths.len() < count {
         return true;
     }
-    !fits(lengths, count, bodies.len())
+    !fits(record.lengths, count, record.bodies.len())
 }
 
 // Whether the numbers are strictly rising from 1 and below next.
@@ -81,28 +90,29 @@ fn good_messages(numbers: &[u64], lengths: &[u64], next: u64) -> bool
 }
 
 // Refusal 3 of a record that is not short.
-pub fn good_record(record: Reliable, numbers: &[u64], lengths: &[u64]) -> bool
-    requires { length numbers.now ≤ length lengths.now }
-    ensures { GoodRecord «record» numbers.now lengths.now result }
+pub fn good_record(record: Record) -> bool
+    requires { length «record».numbers.now ≤ length «record».lengths.now }
+    ensures { GoodRecord «record».entry.reliable «record».entry.numbers.now «record».entry.lengths.now result }
 {
-    if record.message_number < 1 {
+    let next = record.reliable.message_number;
+    if next < 1 {
         return false;
     }
-    if SessionState::MESSAGES_END < record.message_number {
+    if SessionState::MESSAGES_END < next {
         return false;
     }
-    if SessionState::LAST_REMOTE < record.remote_number {
+    if SessionState::LAST_REMOTE < record.reliable.remote_number {
         return false;
     }
-    good_messages(numbers, lengths, record.message_number)
+    good_messages(record.numbers, record.lengths, next)
 }
 
 // ---- what is made of a record
 
 // The outbox of its messages, which are neither pending nor unsent.
-pub fn records(numbers: &[u64], lengths: &[u64], next: u64) -> Outbox
-    requires { Fitting numbers.now lengths.now }
-    ensures { Recorded next numbers.now lengths.now result }
+pub fn records(record: Record) -> Outbox
+    requires { Fitting «record».numbers.now «record».lengths.now }
+    ensures { Recorded «record».entry.reliable.message_number «record».entry.numbers.now «record».entry.lengths.now result }
 {
     let blank = Unacked {
         number: 0,
@@ -111,26 +121,27 @@ pub fn records(numbers: &[u64], lengths: &[u64], next: u64) -> Outbox
         unsent: false,
     };
     let mut records = [blank; 256];
-    for (i, &n) in numbers.iter().enumerate() {
+    for (i, &n) in record.numbers.iter().enumerate() {
         records[i] = Unacked {
             number: n as u32,
-            len: lengths[i] as u32,
+            len: record.lengths[i] as u32,
             ..blank
         };
     }
     Outbox {
-        next,
+        next: record.reliable.message_number,
         records,
-        count: numbers.len(),
+        count: record.numbers.len(),
     }
 }
 
-// How many bytes the first count lengths name.
-pub fn body_bytes(lengths: &[u64], count: usize) -> usize
-    requires { (count ≤ length lengths.now) × (total itself (take count lengths.now) ≤ 65536) }
-    ensures { result ≡ total itself (take count lengths.now) }
+// How many bytes its messages have.
+pub fn body_bytes(record: Record) -> usize
+    requires { (length «record».numbers.now ≤ length «record».lengths.now) × (total itself (take (length «record».numbers.now) «record».lengths.now) ≤ 65536) }
+    ensures { result ≡ total itself (take (length «record».entry.numbers.now) «record».entry.lengths.now) }
 {
-    let sum: u64 = lengths[..count].iter().sum();
+    let count = record.numbers.len();
+    let sum: u64 = record.lengths[..count].iter().sum();
     sum as usize
 }
 
@@ -182,23 +193,16 @@ fn reject_body(reject: &[u8]) -> RejectBody
 // ---- a start
 
 // Refusal 1 of the record, 2 and 3.
-pub fn judge(
-    record: Reliable,
-    numbers: &[u64],
-    lengths: &[u64],
-    bodies: &[u8],
-    policy: Policy,
-    reject: &[u8],
-) -> Result<(), Refusal>
-    ensures { result ≡ verdict_of (short_record numbers.now lengths.now bodies.now) (start (reliable_of «record» numbers.now lengths.now bodies.now) policy reject.now) }
+pub fn judge(record: Record, policy: Policy, reject: &[u8]) -> Result<(), Refusal>
+    ensures { result ≡ verdict_of (short_record «record».entry.numbers.now «record».entry.lengths.now «record».entry.bodies.now) (start (reliable_of «record».entry.reliable «record».entry.numbers.now «record».entry.lengths.now «record».entry.bodies.now) policy reject.now) }
 {
-    if short_record(numbers, lengths, bodies) {
+    if short_record(record) {
         return Err(Refusal::ShortBuffer);
     }
-    if record.disposition > Disposition::OutboundReject as u64 {
+    if record.reliable.disposition > Disposition::OutboundReject as u64 {
         return Err(Refusal::UnknownCode);
     }
-    if !good_record(record, numbers, lengths) {
+    if !good_record(record) {
         return Err(Refusal::BadRecord);
     }
     if !good_policy(policy) {
@@ -211,20 +215,20 @@ pub fn judge(
 }
 
 // The session of a record that is good.
-fn begun(
-    record: Reliable,
-    numbers: &[u64],
-    lengths: &[u64],
-    policy: Policy,
-    reject: &[u8],
-) -> SessionState
-    requires { Beginning «record» numbers.now lengths.now reject.now }
-    ensures { Begun «record» numbers.now lengths.now policy reject.now result }
+fn begun(record: Record, policy: Policy, reject: &[u8]) -> SessionState
+    requires { Beginning «record».reliable «record».numbers.now «record».lengths.now reject.now }
+    ensures { Begun «record».entry.reliable «record».entry.numbers.now «record».entry.lengths.now policy reject.now result }
 {
-    let outbox = records(numbers, lengths, record.message_number);
+    let outbox = records(record);
     let body = reject_body(reject);
-    let disposition = record.disposition as u8;
-    SessionState::new(outbox, record.remote_number, disposition, policy, body)
+    let disposition = record.reliable.disposition as u8;
+    SessionState::new(
+        outbox,
+        record.reliable.remote_number,
+        disposition,
+        policy,
+        body,
+    )
 }
 
 // A refused start hands out no session.
@@ -238,18 +242,15 @@ fn refused(x: Refusal) -> Returned
     }
 }
 
-// A new session from a record whose messages come as three lent slices: numbers, lengths, and the bodies one after the other.
+// A new session from a record.
 pub fn start(
-    record: Reliable,
-    numbers: &[u64],
-    lengths: &[u64],
-    bodies: &[u8],
+    record: Record,
     policy: Policy,
     reject: &[u8],
     outbound: &mut [u8],
     queue: &mut [u8],
 ) -> Returned
-    ensures { Started «record» numbers.now lengths.now bodies.now policy reject.now outbound.old queue.old result outbound.new queue.new }
+    ensures { Started «record».entry.reliable «record».entry.numbers.now «record».entry.lengths.now «record».entry.bodies.now policy reject.now outbound.old queue.old result outbound.new queue.new }
 {
     if outbound.len() < SessionState::OUTBOUND_BYTES {
         return refused(Refusal::ShortBuffer);
@@ -257,12 +258,12 @@ pub fn start(
     if queue.len() < SessionState::QUEUE_BYTES {
         return refused(Refusal::ShortBuffer);
     }
-    if let Err(x) = judge(record, numbers, lengths, bodies, policy, reject) {
+    if let Err(x) = judge(record, policy, reject) {
         return refused(x);
     }
-    let session = begun(record, numbers, lengths, policy, reject);
-    let n = body_bytes(lengths, numbers.len());
-    fill(outbound, bodies, n);
+    let session = begun(record, policy, reject);
+    let n = body_bytes(record);
+    fill(outbound, record.bodies, n);
     let end = queue.len();
     stores::clear(queue, 0, end);
     Returned {

@@ -2,10 +2,10 @@ use Rattle.link_starts.proofs.Starts.{short-outbound, short-queue, judged}
 use Rattle.link_starts.proofs.judge.Goals as goal
 
 pub returns-then-outbound-lt-OUTBOUND_BYTES : goal.returns-then-outbound-lt-OUTBOUND_BYTES
-returns-then-outbound-lt-OUTBOUND_BYTES c = short-outbound c.args.«record» c.args.numbers.now c.args.lengths.now c.args.bodies.now c.args.policy c.args.reject.now c.if-outbound-lt-OUTBOUND_BYTES.true
+returns-then-outbound-lt-OUTBOUND_BYTES c = short-outbound c.args.«record».reliable c.args.«record».numbers.now c.args.«record».lengths.now c.args.«record».bodies.now c.args.policy c.args.reject.now c.if-outbound-lt-OUTBOUND_BYTES.true
 
 pub returns-then-queue-lt-QUEUE_BYTES : goal.returns-then-queue-lt-QUEUE_BYTES
-returns-then-queue-lt-QUEUE_BYTES c = short-queue c.args.«record» c.args.numbers.now c.args.lengths.now c.args.bodies.now c.args.policy c.args.reject.now c.if-outbound-lt-OUTBOUND_BYTES.false c.if-queue-lt-QUEUE_BYTES.true
+returns-then-queue-lt-QUEUE_BYTES c = short-queue c.args.«record».reliable c.args.«record».numbers.now c.args.«record».lengths.now c.args.«record».bodies.now c.args.policy c.args.reject.now c.if-outbound-lt-OUTBOUND_BYTES.false c.if-queue-lt-QUEUE_BYTES.true
 
 pub returns : goal.returns
-returns c = judged c.args.«record» c.args.numbers.now c.args.lengths.now c.args.bodies.now c.args.policy c.args.reject.now c.if-outbound-lt-OUTBOUND_BYTES.false c.if-queue-lt-QUEUE_BYTES.false c.judge.ensures
+returns c = judged c.args.«record».reliable c.args.«record».numbers.now c.args.«record».lengths.now c.args.«record».bodies.now c.args.policy c.args.reject.now c.if-outbound-lt-OUTBOUND_BYTES.false c.if-queue-lt-QUEUE_BYTES.false c.judge.ensures
