@@ -12,13 +12,9 @@ pub fn answer_value(a: Answer) -> u64
     ensures { result ≡ answer_value a }
 {
     match a {
-        Answer::Done => 0,
         Answer::Number(n) => n,
         Answer::Flag(b) => u64::from(b),
-        Answer::Prepared(_) => 0,
-        Answer::Held { start: _, len: _ } => 0,
-        Answer::NotHeld => 0,
-        Answer::Refused(_) => 0,
+        _ => 0,
     }
 }
 
@@ -26,13 +22,5 @@ pub fn answer_value(a: Answer) -> u64
 pub fn message_number(a: Answer) -> u64
     ensures { result ≡ message_number a }
 {
-    match a {
-        Answer::Done => 0,
-        Answer::Number(n) => n,
-        Answer::Flag(_) => 0,
-        Answer::Prepared(_) => 0,
-        Answer::Held { start: _, len: _ } => 0,
-        Answer::NotHeld => 0,
-        Answer::Refused(_) => 0,
-    }
+    if let Answer::Number(n) = a { n } else { 0 }
 }

@@ -2,19 +2,19 @@
 #![tactic(auto)]
 
 use call_reading::records::{Handoff, Numbers, Record};
-use call_reading::{Buffers, Call, Opening};
+use call_reading::{Call, Lent, Opening};
 use peer_session::SessionState;
 use rules::Refusal;
 use session::Returned;
 use starts::Reliable;
 
-// What calls are lent beside the session: the list for their events, and the stores.
+// What calls write beside the session: the list for their events, and the stores.
 #[derive(Drop)]
-pub struct Stores {
-    pub list: [u64; 4096],
-    pub delivery: [u8; 49152],
-    pub outbound: [u8; 65536],
-    pub queue: [u8; 32768],
+pub struct Stores<'a> {
+    pub list: &'a mut [u64; 4096],
+    pub delivery: &'a mut [u8; 49152],
+    pub outbound: &'a mut [u8; 65536],
+    pub queue: &'a mut [u8; 32768],
 }
 
 fn reliable(n: Numbers) -> Reliable {
@@ -30,17 +30,19 @@ fn between(s: &[u8], from: usize, to: usize) -> &[u8] {
     s.get(from..to).unwrap_or(b"")
 }
 
-pub fn start(o: Opening, buffers: &Buffers, stores: &mut Stores) -> Returned {
+pub fn start(o: Opening, lent: Lent, stores: &mut Stores) -> Returned {
     let m = o.record.messages;
+    let outbound = &mut *stores.outbound;
+    let queue = &mut *stores.queue;
     starts::start(
         reliable(o.record.numbers),
-        text::front(&buffers.numbers, m.count),
-        text::front(&buffers.lengths, m.count),
-        between(&buffers.body, m.from, m.to),
+        text::front(lent.numbers, m.count),
+        text::front(lent.lengths, m.count),
+        between(lent.body, m.from, m.to),
         o.policy,
-        text::front(&buffers.body, o.reject),
-        &mut stores.outbound,
-        &mut stores.queue,
+        text::front(lent.body, o.reject),
+        outbound,
+        queue,
     )
 }
 
@@ -70,18 +72,18 @@ fn restore(
     s: SessionState,
     r: Record,
     h: Option<Handoff>,
-    buffers: &Buffers,
+    lent: Lent,
     outbound: &mut [u8; 65536],
 ) -> Returned {
     let m = r.messages;
-    let (handoff, body) = given(h, &buffers.body, m.to);
+    let (handoff, body) = given(h, lent.body, m.to);
     restores::restore(
         s,
         outbound,
         reliable(r.numbers),
-        text::front(&buffers.numbers, m.count),
-        text::front(&buffers.lengths, m.count),
-        between(&buffers.body, m.from, m.to),
+        text::front(lent.numbers, m.count),
+        text::front(lent.lengths, m.count),
+        between(lent.body, m.from, m.to),
         handoff,
         body,
     )
@@ -106,14 +108,16 @@ fn keepalive(s: SessionState, list: &mut [u64; 4096]) -> Returned {
 }
 
 // Calls on the setup and the handoff. The calls are in three functions, since one would be too long to read.
-fn set_up(c: Call, s: SessionState, buffers: &Buffers, stores: &mut Stores) -> Returned {
-    let body = &buffers.body;
-    let outbound = &mut stores.outbound;
+fn set_up(c: Call, s: SessionState, lent: Lent, stores: &mut Stores) -> Returned {
+    let body = lent.body;
+    let list = &mut *stores.list;
+    let outbound = &mut *stores.outbound;
+    let queue = &mut *stores.queue;
     match c {
         Call::Accept { terms, len } => {
             setup::accept_session(s, outbound, terms, text::front(body, len))
         }
-        Call::Reject => setup::reject_session(s, &mut stores.list, outbound),
+        Call::Reject => setup::reject_session(s, list, outbound),
         Call::PrepareChannel(terms) => setup::prepare_channel(s, terms),
         Call::Command { restoring, command } => {
             let (present, id, len) = match command {
@@ -121,20 +125,20 @@ fn set_up(c: Call, s: SessionState, buffers: &Buffers, stores: &mut Stores) -> R
                 None => (false, 0, 0),
             };
             let b = text::front(body, len);
-            handoffs::channel_command(s, &mut stores.list, outbound, restoring, present, id, b)
+            handoffs::channel_command(s, list, outbound, restoring, present, id, b)
         }
-        Call::Retire(retain) => setup::retire(s, outbound, &mut stores.queue, retain),
-        Call::Restore { record, handoff } => restore(s, record, handoff, buffers, outbound),
+        Call::Retire(retain) => setup::retire(s, outbound, queue, retain),
+        Call::Restore { record, handoff } => restore(s, record, handoff, lent, outbound),
         _ => session::refused(s, Refusal::UnknownCode),
     }
 }
 
 // What a peer sent, and a consumer that is ready for it.
-fn receive(c: Call, s: SessionState, buffers: &Buffers, stores: &mut Stores) -> Returned {
-    let list = &mut stores.list;
-    let delivery = &mut stores.delivery;
-    let outbound = &mut stores.outbound;
-    let queue = &mut stores.queue;
+fn receive(c: Call, s: SessionState, lent: Lent, stores: &mut Stores) -> Returned {
+    let list = &mut *stores.list;
+    let delivery = &mut *stores.delivery;
+    let outbound = &mut *stores.outbound;
+    let queue = &mut *stores.queue;
     match c {
         Call::Data {
             status,
@@ -142,7 +146,7 @@ fn receive(c: Call, s: SessionState, buffers: &Buffers, stores: &mut Stores) -> 
             kind,
             len,
         } => {
-            let b = text::front(&buffers.body, len);
+            let b = text::front(lent.body, len);
             receiving::receive_data(s, list, delivery, outbound, queue, status, number, kind, b)
         }
         Call::Ack(n) => acks::receive_ack(s, list, outbound, queue, n),
@@ -150,17 +154,18 @@ fn receive(c: Call, s: SessionState, buffers: &Buffers, stores: &mut Stores) -> 
         Call::Ready { status, mode } => {
             consumers::consumer_ready(s, list, delivery, outbound, queue, status, mode)
         }
-        _ => set_up(c, s, buffers, stores),
+        _ => set_up(c, s, lent, stores),
     }
 }
 
 // Any call; those that send, commit and report are made here.
-pub fn call(c: Call, s: SessionState, buffers: &Buffers, stores: &mut Stores) -> Returned {
-    let list = &mut stores.list;
+pub fn call(c: Call, s: SessionState, lent: Lent, stores: &mut Stores) -> Returned {
+    let list = &mut *stores.list;
+    let outbound = &mut *stores.outbound;
     match c {
         Call::Send(n) => {
-            let b = text::front(&buffers.body, n);
-            sending::send_message(s, list, &mut stores.outbound, b)
+            let b = text::front(lent.body, n);
+            sending::send_message(s, list, outbound, b)
         }
         Call::Prepare => prepare(s),
         Call::Complete { commit, persisted } => {
@@ -174,6 +179,6 @@ pub fn call(c: Call, s: SessionState, buffers: &Buffers, stores: &mut Stores) ->
             number,
             accepted,
         } => acks::report(s, list, what, number, accepted),
-        _ => receive(c, s, buffers, stores),
+        _ => receive(c, s, lent, stores),
     }
 }

@@ -65,6 +65,13 @@ fn print_clock(out: &mut Output, c: Clock, released_remote: u64) {
     out.print_byte(b'\n');
 }
 
+// A line of things counted. A count above the array, which no call leaves, leaves the line open.
+fn end_counted(out: &mut Output, count: usize, room: usize) {
+    if count <= room {
+        out.print_byte(b'\n');
+    }
+}
+
 fn print_unacked(out: &mut Output, o: Outbox, store: &[u8]) {
     out.print_bytes(b"unacked");
     print_field(out, o.count as u64);
@@ -77,7 +84,7 @@ fn print_unacked(out: &mut Output, o: Outbox, store: &[u8]) {
         print_body(out, part(store, from, len));
         from = from.wrapping_add(len);
     }
-    out.print_byte(b'\n');
+    end_counted(out, o.count, o.records.len());
 }
 
 fn print_queue(out: &mut Output, q: Queue, store: &[u8]) {
@@ -91,7 +98,7 @@ fn print_queue(out: &mut Output, q: Queue, store: &[u8]) {
         print_body(out, part(store, from, len));
         from = from.wrapping_add(len);
     }
-    out.print_byte(b'\n');
+    end_counted(out, q.count, q.records.len());
 }
 
 fn print_numbers(out: &mut Output, word: &[u8], v: Numbers) {
@@ -100,7 +107,7 @@ fn print_numbers(out: &mut Output, word: &[u8], v: Numbers) {
     for &n in text::front(&v.values, v.count) {
         print_field(out, n);
     }
-    out.print_byte(b'\n');
+    end_counted(out, v.count, v.values.len());
 }
 
 fn print_handoff(out: &mut Output, h: TerminalHandoff) {

@@ -11,10 +11,28 @@ pub mod records; // the record of a start or a restore
 
 // What a line is read into: the numbers and lengths of a record's messages, and the bodies of the line.
 #[derive(Drop)]
-pub struct Buffers {
-    pub numbers: [u64; 257],
-    pub lengths: [u64; 257],
-    pub body: [u8; 150000],
+pub struct Buffers<'a> {
+    pub numbers: &'a mut [u64; 257],
+    pub lengths: &'a mut [u64; 257],
+    pub body: &'a mut [u8],
+}
+
+// The same as calls are lent it, of any length.
+#[derive(Clone, Copy)]
+pub struct Lent<'a> {
+    pub numbers: &'a [u64],
+    pub lengths: &'a [u64],
+    pub body: &'a [u8],
+}
+
+impl Buffers<'_> {
+    pub fn lent(&self) -> Lent {
+        Lent {
+            numbers: self.numbers,
+            lengths: self.lengths,
+            body: self.body,
+        }
+    }
 }
 
 #[derive(Clone, Copy)]
@@ -157,7 +175,7 @@ fn read_report(fields: &mut Fields) -> Option<Call> {
 fn read_restore(fields: &mut Fields, buffers: &mut Buffers) -> Option<Call> {
     let numbers = records::read_numbers(fields)?;
     let messages = records::read_messages(fields, 0, buffers)?;
-    let handoff = records::read_handoff(fields, &mut buffers.body, messages.to)?;
+    let handoff = records::read_handoff(fields, buffers.body, messages.to)?;
     let record = Record { numbers, messages };
     Some(Call::Restore { record, handoff })
 }
@@ -170,7 +188,7 @@ fn read_start(fields: &mut Fields, buffers: &mut Buffers) -> Option<Opening> {
         bytes: fields.decimal()? as usize,
         body: fields.decimal()? as usize,
     };
-    let reject = fields.hex(&mut buffers.body)?;
+    let reject = fields.hex(buffers.body)?;
     let messages = records::read_messages(fields, reject, buffers)?;
     Some(Opening {
         record: Record { numbers, messages },
@@ -180,7 +198,7 @@ fn read_start(fields: &mut Fields, buffers: &mut Buffers) -> Option<Opening> {
 }
 
 fn read_call(word: &[u8], fields: &mut Fields, buffers: &mut Buffers) -> Option<Call> {
-    let body = &mut buffers.body;
+    let body = &mut *buffers.body;
     let call = match word {
         b"send" => Call::Send(fields.hex(body)?),
         b"data" => read_data(fields, body)?,

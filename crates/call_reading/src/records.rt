@@ -48,7 +48,7 @@ pub fn read_messages(fields: &mut Fields, from: usize, buffers: &mut Buffers) ->
     let mut to = from;
     for _ in 0..fields.decimal()? {
         let number = fields.decimal()?;
-        let len = fields::body(fields, &mut buffers.body, to)?;
+        let len = fields::body(fields, buffers.body, to)?;
         if count < 257 {
             buffers.numbers[count] = number;
             buffers.lengths[count] = len as u64;

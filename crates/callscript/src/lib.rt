@@ -12,30 +12,13 @@ use std::io::{Stdin, Stdout};
 
 // The session, once one has started, what lines are read into, and what calls are lent.
 #[derive(Drop)]
-struct Script {
+struct Script<'a> {
     session: Option<SessionState>,
-    buffers: Buffers,
-    stores: Stores,
+    buffers: Buffers<'a>,
+    stores: Stores<'a>,
 }
 
-impl Script {
-    fn new() -> Self {
-        Script {
-            session: None,
-            buffers: Buffers {
-                numbers: [0; 257],
-                lengths: [0; 257],
-                body: [0; 150000],
-            },
-            stores: Stores {
-                list: [0; 4096],
-                delivery: [0; 49152],
-                outbound: [0; 65536],
-                queue: [0; 32768],
-            },
-        }
-    }
-
+impl Script<'_> {
     // Prints a call of this word, which answered a and listed events.
     fn print_call(&self, out: &mut Output, word: &[u8], a: Answer, events: usize) {
         let stores = &self.stores;
@@ -44,15 +27,15 @@ impl Script {
             word,
             a,
             events,
-            &stores.list,
-            &stores.delivery,
-            &stores.outbound,
+            stores.list,
+            stores.delivery,
+            stores.outbound,
         );
     }
 
     // A refused start leaves the session that was there.
     fn start(&mut self, o: Opening, out: &mut Output) {
-        let r = call_making::start(o, &self.buffers, &mut self.stores);
+        let r = call_making::start(o, self.buffers.lent(), &mut self.stores);
         if !matches!(r.answer, Answer::Refused(_)) {
             self.session = Some(r.session);
         }
@@ -60,20 +43,20 @@ impl Script {
     }
 
     fn call(&mut self, c: Call, s: SessionState, word: &[u8], out: &mut Output) {
-        let r = call_making::call(c, s, &self.buffers, &mut self.stores);
+        let r = call_making::call(c, s, self.buffers.lent(), &mut self.stores);
         self.session = Some(r.session);
         self.print_call(out, word, r.answer, r.events);
     }
 
     fn fetch(&self, number: u64, s: SessionState, out: &mut Output) {
-        let outbound = &self.stores.outbound;
+        let outbound = &*self.stores.outbound;
         let a = fetches::find(s, outbound, number);
         call_printing::print_fetch(out, a, fetches::fetch(s, outbound, number));
     }
 
     fn print_state(&self, s: SessionState, out: &mut Output) {
         let stores = &self.stores;
-        call_printing::dumping::print_state(out, s, &stores.outbound, &stores.queue);
+        call_printing::dumping::print_state(out, s, stores.outbound, stores.queue);
     }
 
     fn set_generation(&mut self, generation: u32, s: SessionState) {
@@ -99,7 +82,32 @@ impl Script {
 
 // Answers all of standard input.
 pub fn run(stdin: Stdin, stdout: Stdout) {
-    let mut script = Script::new();
+    let mut numbers = [0; 257];
+    let mut lengths = [0; 257];
+    let mut body = [0; 150000];
+    let mut list = [0; 4096];
+    let mut delivery = [0; 49152];
+    let mut outbound = [0; 65536];
+    let mut queue = [0; 32768];
     let mut line = [0u8; 300000];
-    scripts::run(stdin, stdout, &mut line, |s, out| script.answer(s, out));
+    let mut script = Script {
+        session: None,
+        buffers: Buffers {
+            numbers: &mut numbers,
+            lengths: &mut lengths,
+            body: &mut body,
+        },
+        stores: Stores {
+            list: &mut list,
+            delivery: &mut delivery,
+            outbound: &mut outbound,
+            queue: &mut queue,
+        },
+    };
+    scripts::run(
+        stdin,
+        stdout,
+        &mut line,
+        move |s, out| script.answer(s, out),
+    );
 }
