@@ -116,12 +116,11 @@ fn set_up(c: Call, s: SessionState, buffers: &Buffers, stores: &mut Stores) -> R
         Call::Reject => setup::reject_session(s, &mut stores.list, outbound),
         Call::PrepareChannel(terms) => setup::prepare_channel(s, terms),
         Call::Command { restoring, command } => {
-            let (present, id, len) = match command {
-                Some(c) => (true, c.id, c.len),
-                None => (false, 0, 0),
-            };
-            let b = text::front(body, len);
-            handoffs::channel_command(s, &mut stores.list, outbound, restoring, present, id, b)
+            let command = command.map(|c| handoffs::Command {
+                id: c.id,
+                body: text::front(body, c.len),
+            });
+            handoffs::channel_command(s, &mut stores.list, outbound, restoring, command)
         }
         Call::Retire(retain) => setup::retire(s, outbound, &mut stores.queue, retain),
         Call::Restore { record, handoff } => restore(s, record, handoff, buffers, outbound),
