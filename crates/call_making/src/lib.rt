@@ -1,7 +1,7 @@
 // The calls of a script, made on its session.
 #![tactic(auto)]
 
-use call_reading::records::{Handoff, Numbers, Record};
+use call_reading::records::{Handoff, Record};
 use call_reading::{Call, Lent, Opening};
 use peer_session::SessionState;
 use rules::Refusal;
@@ -17,28 +17,30 @@ pub struct Stores<'a> {
     pub queue: &'a mut [u8; 32768],
 }
 
-fn reliable(n: Numbers) -> Reliable {
-    Reliable {
-        message_number: n.message_number,
-        remote_number: n.remote,
-        disposition: n.disposition,
-    }
-}
-
 // A part that a slice does not have is empty.
 fn between(s: &[u8], from: usize, to: usize) -> &[u8] {
     s.get(from..to).unwrap_or(b"")
 }
 
+fn lent_record<'a>(r: Record, lent: Lent<'a>) -> starts::Record<'a> {
+    let reliable = Reliable {
+        message_number: r.numbers.message_number,
+        remote_number: r.numbers.remote,
+        disposition: r.numbers.disposition,
+    };
+    starts::Record {
+        reliable,
+        numbers: text::front(lent.numbers, r.messages.count),
+        lengths: text::front(lent.lengths, r.messages.count),
+        bodies: between(lent.body, r.messages.from, r.messages.to),
+    }
+}
+
 pub fn start(o: Opening, lent: Lent, stores: &mut Stores) -> Returned {
-    let m = o.record.messages;
     let outbound = &mut *stores.outbound;
     let queue = &mut *stores.queue;
     starts::start(
-        reliable(o.record.numbers),
-        text::front(lent.numbers, m.count),
-        text::front(lent.lengths, m.count),
-        between(lent.body, m.from, m.to),
+        lent_record(o.record, lent),
         o.policy,
         text::front(lent.body, o.reject),
         outbound,
@@ -75,15 +77,11 @@ fn restore(
     lent: Lent,
     outbound: &mut [u8; 65536],
 ) -> Returned {
-    let m = r.messages;
-    let (handoff, body) = given(h, lent.body, m.to);
+    let (handoff, body) = given(h, lent.body, r.messages.to);
     restores::restore(
         s,
         outbound,
-        reliable(r.numbers),
-        text::front(lent.numbers, m.count),
-        text::front(lent.lengths, m.count),
-        between(lent.body, m.from, m.to),
+        lent_record(r, lent),
         handoff,
         body,
     )
@@ -120,12 +118,11 @@ fn set_up(c: Call, s: SessionState, lent: Lent, stores: &mut Stores) -> Returned
         Call::Reject => setup::reject_session(s, list, outbound),
         Call::PrepareChannel(terms) => setup::prepare_channel(s, terms),
         Call::Command { restoring, command } => {
-            let (present, id, len) = match command {
-                Some(c) => (true, c.id, c.len),
-                None => (false, 0, 0),
-            };
-            let b = text::front(body, len);
-            handoffs::channel_command(s, list, outbound, restoring, present, id, b)
+            let command = command.map(|c| handoffs::Command {
+                id: c.id,
+                body: text::front(body, c.len),
+            });
+            handoffs::channel_command(s, list, outbound, restoring, command)
         }
         Call::Retire(retain) => setup::retire(s, outbound, queue, retain),
         Call::Restore { record, handoff } => restore(s, record, handoff, lent, outbound),

@@ -51,7 +51,8 @@ impl Script<'_> {
     fn fetch(&self, number: u64, s: SessionState, out: &mut Output) {
         let outbound = &*self.stores.outbound;
         let a = fetches::find(s, outbound, number);
-        call_printing::print_fetch(out, a, fetches::fetch(s, outbound, number));
+        let body = fetches::fetch(s, outbound, number).unwrap_or(b"");
+        call_printing::print_fetch(out, a, body);
     }
 
     fn print_state(&self, s: SessionState, out: &mut Output) {

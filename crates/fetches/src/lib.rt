@@ -1,7 +1,8 @@
 // The body of a held message, as a part of the outbound store and not a copy.
 #![tactic(auto)]
 
-ghost use Rattle.fetches.specs.Fetched.{AnsweredWithOutbound, Fetched};
+ghost use Rattle.std.specs.Prelude.{length, option_copied};
+ghost use Rattle.fetches.specs.Fetched.{AnsweredWithOutbound, FetchedIf, lies_within};
 ghost use Rattle.rules.specs.Calls.{fetches};
 
 use peer_session::SessionState;
@@ -9,7 +10,8 @@ use rules::{Answer, Refusal};
 
 // Whether a number is held, and where its body lies.
 pub fn find(s: SessionState, outbound: &[u8], number: u64) -> Answer
-    ensures { AnsweredWithOutbound (fetches number) s outbound.now result }
+    ensures answer { AnsweredWithOutbound (fetches number) s outbound.now result }
+    ensures within { lies_within (length outbound.now) result }
 {
     if outbound.len() < SessionState::OUTBOUND_BYTES {
         return Answer::Refused(Refusal::ShortBuffer);
@@ -26,18 +28,12 @@ pub fn find(s: SessionState, outbound: &[u8], number: u64) -> Answer
     }
 }
 
-// The body itself, and nothing where `find` does not answer that it is held: a held body may be empty too, so `find` tells the two apart.
-pub fn fetch(s: SessionState, outbound: &[u8], number: u64) -> &[u8]
-    ensures { Fetched number s outbound.now result.now }
+// The body itself, where `find` answers that it is held, and None elsewhere.
+pub fn fetch(s: SessionState, outbound: &[u8], number: u64) -> Option<&[u8]>
+    ensures { FetchedIf number s outbound.now (option_copied result) }
 {
-    if outbound.len() < SessionState::OUTBOUND_BYTES {
-        return &outbound[..0];
-    }
-    if !peer_session::sound(s) {
-        return &outbound[..0];
-    }
-    match outbox::locate(s.outbox, number) {
-        Some(place) => stores::part(outbound, place.start, place.len),
-        None => &outbound[..0],
+    match find(s, outbound, number) {
+        Answer::Held { start, len } => Some(stores::part(outbound, start, len)),
+        _ => None,
     }
 }

@@ -35,11 +35,6 @@ plain = record { taken = refl; known = refl; reach = λ t. refl }
 
 -- ---- the rule
 
--- the size that counts
-pub size_is : (present : Bool) (id : ℕ) (b : Bytes) → (if present then length b else 0) ≡ command_size (command_of present id b)
-size_is true id b = refl
-size_is false id b = refl
-
 abbrev pub from_start : Bool → Option Command → R.State → Outcome
 from_start b c t = commanding b c (starting b t)
 
@@ -102,22 +97,27 @@ from-started true c {s = s} w =
     record { shown = w.shown; does = w.does; exact = λ size e. w.exact size (exact-staged _ _ s e); bytes = w.bytes; queue = w.queue; listed = w.listed }
 from-started false c w = w
 
+module _ (b : Bool) (k : Option Command) (s : SessionState) (l : List ℕ) (o : Bytes) (ll : 4096 ≤ length l) (lo : 65536 ≤ length o) (sound : sound_of s ≡ true) (full : Full s)
+    (low : s.clock.generation < 4294966000) (few : command_size k ≤ 4096) where
+  pub carries_out : {x : SessionState} {c : Option Command} {r : Returned} {l' : List ℕ} {o' : Bytes} → x ≡ starting_in b s → k ≡ c → Comes (commanding b c) x l o r l' o'
+      → CalledWithOutbound (commands b k) s l o r l' o'
+  carries_out {x} {c} {r} {l'} {o'} e f w d q lq =
+      let v : Comes (commanding b c) (starting_in b s) l o r l' o' = rw e at w in
+      let u : Comes (commanding b k) (starting_in b s) l o r l' o' = rw f v in
+      comes plain s l d o q (λ z. ll) sound full lo lq (from-started b k u) (carried_out b k (state_of s o q) low few) is-taken
+
+-- ---- a command as C gives it
+
+-- the size that counts
+pub size_is : (present : Bool) (id : ℕ) (b : Bytes) → (if present then length b else 0) ≡ command_size (command_of present id b)
+size_is true id b = refl
+size_is false id b = refl
+
 -- a body that a command has, by the length that was tested
 pub short-body : (present : Bool) {n m : ℕ} → present ≡ true → n ≡ (if present then m else 0) → n ≤ 4096 → m ≤ 4096
 short-body present {n} {m} p e h =
     let f : n ≡ m = e ∙ ap (λ (b : Bool). if b then m else 0) p in
     omega arith
-
-module _ (b present : Bool) (id : ℕ) (body : Bytes) (s : SessionState) (l : List ℕ) (o : Bytes) (ll : 4096 ≤ length l) (lo : 65536 ≤ length o) (sound : sound_of s ≡ true)
-    (full : Full s) (low : s.clock.generation < 4294966000) {n : ℕ} (size : n ≡ (if present then length body else 0)) (few : n ≤ 4096) where
-  pub carries_out : {x : SessionState} {c : Option Command} {r : Returned} {l' : List ℕ} {o' : Bytes} → x ≡ starting_in b s → command_of present id body ≡ c
-      → Comes (commanding b c) x l o r l' o' → CalledWithOutbound (commands b (command_of present id body)) s l o r l' o'
-  carries_out {x} {c} {r} {l'} {o'} e f w d q lq =
-      let v : Comes (commanding b c) (starting_in b s) l o r l' o' = rw e at w in
-      let u : Comes (commanding b (command_of present id body)) (starting_in b s) l o r l' o' = rw f v in
-      let k : n ≡ command_size (command_of present id body) = size ∙ size_is present id body in
-      let k2 : command_size (command_of present id body) ≤ 4096 = omega arith in
-      comes plain s l d o q (λ z. ll) sound full lo lq (from-started b (command_of present id body) u) (carried_out b (command_of present id body) (state_of s o q) low k2) is-taken
 
 pub a-command : (present : Bool) (id : ℕ) (b : Bytes) → present ≡ true → command_of present id b ≡ some (record { id = id; body = b })
 a-command present id b e = rw e refl

@@ -1,5 +1,7 @@
 -- A channel's command, and the contracts of its steps. Assumes nothing.
 use Rattle.std.specs.Prelude.{ℕ, ◌≤◌, ◌≡◌, Bool, true, false, ◌&&◌, length, eqb, if◌then◌else◌}
+use Rattle.std.specs.Prelude as Prelude
+use Rattle.std.specs.Prelude.{Some, None}
 use Rattle.std.proofs.Math.Option.{Option, none, some}
 use Rattle.rules.specs.declared.Setup.TheVariants.{Started}
 use Rattle.rules.specs.declared.Answer.TheVariants.{Done}
@@ -9,12 +11,22 @@ use Rattle.rules.specs.Progress.{Progress, stays, ◌then◌, request, Outcome, 
 use Rattle.rules.specs.Handoff.{Command, channel_command, validate}
 use Rattle.outbox.specs.View.{ExactOutbox}
 use Rattle.outbox.specs.Sound.{sound_outbox_of}
+use Rattle.handoffs.specs.declared.Command as Lent
 use Rattle.peer_session.specs.declared.TerminalHandoff.{TerminalHandoff}
 use Rattle.peer_session.specs.declared.SessionState.{SessionState}
 use Rattle.peer_session.specs.View.{handoff_of, handoff_length}
 use Rattle.setup.specs.Steps.{Ready, staged}
 
+-- a command whose body lies in a lent buffer
+abbrev pub lent_command : Lent.Command → Command
+lent_command c = record { id = c.id; body = c.body.now }
+
 -- the Rust's `Option<TerminalCommand>`, as a call gets it
+abbrev pub command_in : Prelude.Option Lent.Command → Option Command
+command_in None = none
+command_in (Some c) = some (lent_command c)
+
+-- as C gives it, in its parts
 abbrev pub command_of : Bool → ℕ → Bytes → Option Command
 command_of present id b = if present then some (record { id = id; body = b }) else none
 

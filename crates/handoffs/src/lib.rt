@@ -5,17 +5,24 @@ ghost use Rattle.std.specs.Prelude.{◌≡◌, Bool, true, false, List, ℕ, ◌
 ghost use Rattle.std.proofs.Math.Option.{none, some};
 ghost use Rattle.rules.specs.Lists.{Bytes, any};
 ghost use Rattle.rules.specs.Calls.{commands};
-ghost use Rattle.rules.specs.Handoff.{numbered_to};
+ghost use Rattle.rules.specs.Handoff.{numbered_to, command_size};
 ghost use Rattle.outbox.specs.Sound.{sound_outbox_of};
 ghost use Rattle.outbox.specs.View.{unacked_of, ExactOutbox};
 ghost use Rattle.session.specs.Promise.{CalledWithOutbound};
 ghost use Rattle.setup.specs.Steps.{Comes};
-ghost use Rattle.handoffs.specs.Commands.{command_of, starting_in, commanding, HandsOver, carries_body, Vacant, Holding, validating};
+ghost use Rattle.handoffs.specs.Commands.{lent_command, command_in, starting_in, commanding, HandsOver, carries_body, Vacant, Holding, validating};
 
 use outbox::Outbox;
 use peer_session::{SessionState, TerminalHandoff};
 use rules::{Refusal, Setup};
 use session::Returned;
+
+// The Rust's `TerminalCommand`. Its body lies in a lent buffer.
+#[derive(Clone, Copy)]
+pub struct Command<'a> {
+    pub id: u64,
+    pub body: &'a [u8],
+}
 
 // ---- steps
 
@@ -44,6 +51,16 @@ fn handed(id: u64, number: u64, body: &[u8]) -> TerminalHandoff
         sent: false,
         acknowledged: false,
         present: true,
+    }
+}
+
+// The size that counts: no command has none.
+fn size_of(command: Option<Command>) -> usize
+    ensures { result ≡ command_size (command_in command.entry) }
+{
+    match command {
+        Some(c) => c.body.len(),
+        None => 0,
     }
 }
 
@@ -87,21 +104,15 @@ fn no_command(s: SessionState, list: &mut [u64], restoring: bool) -> Returned
 }
 
 // The body is sent, and its handoff is pending.
-fn hand_off(
-    s: SessionState,
-    list: &mut [u64],
-    outbound: &mut [u8],
-    id: u64,
-    body: &[u8],
-) -> Returned
-    requires { (4096 ≤ length list.old) × Vacant s (length outbound.old) (length body.now) }
-    ensures { (restoring : Bool) → Comes (commanding restoring (some (record { id = id; body = body.now }))) s list.old outbound.old result list.new outbound.new }
+fn hand_off(s: SessionState, list: &mut [u64], outbound: &mut [u8], c: Command) -> Returned
+    requires { (4096 ≤ length list.old) × Vacant s (length outbound.old) (length c.body.now) }
+    ensures { (restoring : Bool) → Comes (commanding restoring (some (lent_command c.entry))) s list.old outbound.old result list.new outbound.new }
 {
     let number = s.outbox.next;
-    match setup::join(s, outbound, s.stage.disposition, body) {
+    match setup::join(s, outbound, s.stage.disposition, c.body) {
         Ok(joined) => {
             let mut r = joined;
-            r.handoff = handed(id, number, body);
+            r.handoff = handed(c.id, number, c.body);
             setup::done(r, list)
         }
         Err(x) => session::refused(s, x),
@@ -138,21 +149,20 @@ fn pending(
     list: &mut [u64],
     outbound: &[u8],
     restoring: bool,
-    id: u64,
-    body: &[u8],
+    c: Command,
 ) -> Returned
     requires { (4096 ≤ length list.old) × Holding s (length outbound.now) }
-    ensures { Comes (commanding restoring (some (record { id = id; body = body.now }))) s list.old outbound.now result list.new outbound.now }
+    ensures { Comes (commanding restoring (some (lent_command c.entry))) s list.old outbound.now result list.new outbound.now }
 {
     if !restoring {
         return session::refused(s, Refusal::HandoffPending);
     }
-    if s.handoff.id != id {
+    if s.handoff.id != c.id {
         return session::refused(s, Refusal::CommandDiffers);
     }
     let bytes = s.handoff.body;
     let len = s.handoff.len;
-    if !stores::same_bytes(&bytes[..len], body) {
+    if !stores::same_bytes(&bytes[..len], c.body) {
         return session::refused(s, Refusal::CommandDiffers);
     }
     validate(s, list, outbound)
@@ -164,11 +174,9 @@ pub fn channel_command(
     list: &mut [u64],
     outbound: &mut [u8],
     restoring: bool,
-    present: bool,
-    id: u64,
-    body: &[u8],
+    command: Option<Command>,
 ) -> Returned
-    ensures { CalledWithOutbound (commands restoring (command_of present id body.now)) s list.old outbound.old result list.new outbound.new }
+    ensures { CalledWithOutbound (commands restoring (command_in command.entry)) s list.old outbound.old result list.new outbound.new }
 {
     if list.len() < SessionState::EVENT_WORDS {
         return session::refused(s, Refusal::ShortBuffer);
@@ -182,15 +190,15 @@ pub fn channel_command(
     if SessionState::GENERATION_LIMIT <= s.clock.generation {
         return session::refused(s, Refusal::GenerationsExhausted);
     }
-    if SessionState::MAX_HANDOFF < peer_session::handoff_length(present, body.len()) {
+    if SessionState::MAX_HANDOFF < size_of(command) {
         return session::refused(s, Refusal::HandoffTooLong);
     }
     let r = starting(s, restoring);
-    if !present {
+    let Some(c) = command else {
         return no_command(r, list, restoring);
-    }
+    };
     if !s.handoff.present {
-        return hand_off(r, list, outbound, id, body);
+        return hand_off(r, list, outbound, c);
     }
-    pending(r, list, outbound, restoring, id, body)
+    pending(r, list, outbound, restoring, c)
 }

@@ -129,8 +129,8 @@ drives w h b t l o restoring present id body ek (ready, few) lh st g =
     record {
       returned = g.returned;
       called =
-          carries_out restoring present id body (opened_of (parts w h b t)) l o ready.list ready.outbound (sym ready.checked.is) ready.checked.full ready.low ek few
-          (started w h b t ready.checked lh restoring st) refl g.comes;
+          carries_out restoring (command_of present id body) (opened_of (parts w h b t)) l o ready.list ready.outbound (sym ready.checked.is) ready.checked.full ready.low
+          (rw (ek ∙ size_is present id body) at few) (started w h b t ready.checked lh restoring st) refl g.comes;
       leaves = g.leaves;
       answers = g.answers;
       kept = λ z. absurd (true≢false (ready.checked.is ∙ z));
