@@ -57,7 +57,7 @@ pub fn prepare_channel(
 
 // ---- accept
 
-// The tests of an accept, in their order.
+// The tests of an accept, in their order. They aren't a send's: an accept takes no list to test.
 fn accept_enters(
     words: &Words,
     halves: &Halves,
