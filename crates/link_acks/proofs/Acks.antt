@@ -9,21 +9,21 @@ use lib.Ieee.{Float}
 use lib.ListN.{length, set, length-set}
 use lib.Seq.{get_or-set_same}
 use lib.Dec.{leb, eqb}
-use borrow.Author.Tests.{eq-eqb, ne_eqb}
+use borrow.Author.Tests.{eq-eqb, ne_eqb, le-leb}
 use Rattle.rules.specs.declared.Answer.TheVariants.{Flag, Refused}
 use Rattle.rules.specs.declared.Refusal.{Refusal}
 use Rattle.rules.specs.declared.ReceiveMode.TheVariants.{Raw, Proposal, Channel, Rejection, Retiring}
-use Rattle.rules.specs.declared.Refusal.TheVariants.{ShortBuffer, BadRecord, AckOutOfRange, GenerationsExhausted}
+use Rattle.rules.specs.declared.Refusal.TheVariants.{ShortBuffer, AckOutOfRange}
 use Rattle.rules.specs.declared.Clock.{Clock}
 use Rattle.rules.specs.Lists.{Bytes, kept, empty}
 use Rattle.rules.specs.State.{is_raw}
-use Rattle.rules.specs.Acks.{survives}
-use Rattle.rules.specs.Calls.{gets_ack}
+use Rattle.rules.specs.Acks.{survives, receive_ack}
+use Rattle.rules.specs.Buffers.{taken_by, wrong_code, queue_reach}
+use Rattle.rules.specs.Calls.{gets_ack, step}
 use Rattle.events.specs.Written.{Listed, asked}
 use Rattle.outbox.specs.View.{unacked_of, ExactOutbox}
 use Rattle.peer_session.specs.declared.Stage.{Stage}
 use Rattle.peer_session.specs.declared.TerminalHandoff.{TerminalHandoff}
-use Rattle.peer_session.specs.Sound.{sound_of, Full}
 use Rattle.session.specs.Promise.{CalledWithStores}
 use Rattle.session.proofs.Queries.{empty-unacked}
 use Rattle.acks.specs.Steps.{clock_after, notices}
@@ -43,7 +43,8 @@ use Rattle.link_outbox.specs.Steps.{Drops}
 use Rattle.link_sound.proofs.Parts.{Usable, usable}
 use Rattle.link_codes.proofs.Enums.{stage-good}
 use Rattle.link_draining.specs.Steps.{Failing}
-use Rattle.link_acks.specs.Acks.{AckReady, AckTurns, AckFound, outside, BeyondIn, raised_if}
+use Rattle.link_sending.specs.Sends.{Ready, Sending, Found}
+use Rattle.link_acks.specs.Acks.{AckTurns, AckFound, outside, BeyondIn, raised_if}
 use Rattle.link_sound.proofs.Lengths.{bytes-long}
 
 -- ---- what good codes say
@@ -157,9 +158,9 @@ clock-raised : (e : Bool) (c : Clock) → record { last_replay_at = c.last_repla
 clock-raised true c = refl
 clock-raised false c = refl
 
-module _ (w h b : List ℕ) (t : Float) (l : List ℕ) (o : Bytes) (number : ℕ) (ready : AckReady (parts w h b t) (length l) (length o)) where
+module _ (w h b : List ℕ) (t : Float) (l : List ℕ) (o : Bytes) (number : ℕ) (ready : Ready (parts w h b t) (length l) (length o)) where
   used : Usable w h b
-  used = usable w h b t (record { is = sym ready.sound; full = ready.full })
+  used = usable w h b t ready.checked
 
   -- what the sweep asks of the messages
   pub messages-exact : ExactOutbox (outbox_in w h b) (length o)
@@ -171,10 +172,10 @@ module _ (w h b : List ℕ) (t : Float) (l : List ℕ) (o : Bytes) (number : ℕ
     abbrev k : ℕ
     k = length (kept (survives number) (unacked_of (outbox_in w h b) o))
 
-    dates : {c : Clock} → c ≡ clock_in (set h' 768 g) t → c ≡ record { last_replay_at = t; generation = g; released = at h 769; persisted = at h 770 }
-    dates e =
+    dates : (lh : length h ≡ 772) → {c : Clock} → c ≡ clock_in (set h' 768 g) t → c ≡ record { last_replay_at = t; generation = g; released = at h 769; persisted = at h 770 }
+    dates lh e =
         e
-        ∙ clock_dated w h b t ready.halves used.words (bytes-long w h b t ready.full) w' h' b' k d.words d.halves d.bytes g f
+        ∙ clock_dated w h b t lh used.words (bytes-long w h b t ready.checked.full) w' h' b' k d.words d.halves d.bytes g f
 
     -- a rejection is complete where no message is left
     completes : (x : Bytes) → (eqb (at b 768) 4 && eqb (at w' 1) 0) ≡ (eqb (stage_of (codes_in h b)).disposition 4 && empty (unacked_of (outbox_in w' h' b') x))
@@ -182,19 +183,19 @@ module _ (w h b : List ℕ) (t : Float) (l : List ℕ) (o : Bytes) (number : ℕ
         ap (λ (i : ℕ). eqb i 4 && eqb (at w' 1) 0) (disposition_is (codes_in h b) used.codes)
         ∙ ap (λ (z : Bool). eqb (stage_of (codes_in h b)).disposition 4 && z) (sym (empty-unacked (outbox_in w' h' b') x (length-seats 256 (unacked_at h' b'))))
 
-    pub went : outside number (at w 0) ≡ false → {c : Clock} {l₁ l₂ : List ℕ} {n₁ n : ℕ} → c ≡ clock_in (set h' 768 g) t → Listed (asked c) l 0 l₁ n₁ → {x : Bool}
+    pub went : (lh : length h ≡ 772) → outside number (at w 0) ≡ false → {c : Clock} {l₁ l₂ : List ℕ} {n₁ n : ℕ} → c ≡ clock_in (set h' 768 g) t → Listed (asked c) l 0 l₁ n₁ → {x : Bool}
         → x ≡ (eqb (at b 768) 4 && eqb (at w' 1) 0) → Listed (notices number x (eqb (at b 771) 0)) l₁ n₁ l₂ n → {y : LinkAnswer} → y ≡ answer_of (Flag true) n → (q : Bytes)
         → 32768 ≤ length q → Driven (parts w h b t) (parts w' (set h' 768 g) (set b' 774 f) t) y (λ s r. CalledWithStores (gets_ack number) s l o q r l₂ o' q)
     unfolding opened_of
-    went within {c} {l₁} {l₂} {n₁} {n} ec li {x} ex lj e q lq =
-        changes (parts w h b t) ready.sound (parts w' (set h' 768 g) (set b' 774 f) t) _
-        (ack_leaves w h b t ready.halves used.words (bytes-long w h b t ready.full) w' h' b' k d.words d.halves d.bytes g f) (Flag true) n e
-        (λ v. A.goes number (opened_of (parts w h b t)) l o q v ready.list ready.outbound lq ready.sound ready.full ready.low within
+    went lh within {c} {l₁} {l₂} {n₁} {n} ec li {x} ex lj e q lq =
+        changes (parts w h b t) (sym ready.checked.is) (parts w' (set h' 768 g) (set b' 774 f) t) _
+        (ack_leaves w h b t lh used.words (bytes-long w h b t ready.checked.full) w' h' b' k d.words d.halves d.bytes g f) (Flag true) n e
+        (λ v. A.goes number (opened_of (parts w h b t)) l o q v ready.list ready.outbound lq (sym ready.checked.is) ready.checked.full ready.low within
         (acked-is number (opened_of (parts w h b t)) l o _ o'
         (acknowledges number (opened_of (parts w h b t)) o (outbox_in w' h' b') o' _ (flag f) messages-exact d.left
         (ap (λ (i : ℕ). record { last_replay_at = t; generation = i; released = at h 769; persisted = at h 770 }) raised
         ∙ clock-raised (eqb (at w' 1) (at w 1)) (clock_in h t)) flagged)
-        (subst (λ (z : Clock). Listed (asked z) l 0 l₁ n₁) (dates ec) li)
+        (subst (λ (z : Clock). Listed (asked z) l 0 l₁ n₁) (dates lh ec) li)
         (λ i j. ex ∙ completes i)
         (raw_is (codes_in h b) used.codes) lj))
 
@@ -207,37 +208,23 @@ module _ (w h b : List ℕ) (t : Float) (l : List ℕ) (o : Bytes) (number : ℕ
       → BeyondIn (parts w h b t) l q y p' l' q' → Driven (parts w h b t) p' y (λ s r. CalledWithStores (gets_ack number) s l o q r l' o q')
   unfolding opened_of
   broke out q lq {p'} g =
-      changes (parts w h b t) ready.sound p' (opened_of p') refl (Refused AckOutOfRange) g.events g.answers
-      (λ v. A.fails number (opened_of (parts w h b t)) l o q v ready.list ready.outbound lq ready.sound ready.full ready.low out g.breaks)
+      changes (parts w h b t) (sym ready.checked.is) p' (opened_of p') refl (Refused AckOutOfRange) g.events g.answers
+      (λ v. A.fails number (opened_of (parts w h b t)) l o q v ready.list ready.outbound lq (sym ready.checked.is) ready.checked.full ready.low out g.breaks)
 
 -- ---- the tests
 
-module _ (p : Parts) {n m k : ℕ} where
-  pub short-list : n < 4096 → AckTurns p n m k ShortBuffer
-  short-list h = record { call = λ l o q el eo eq number r t d. A.list-short number (opened_of p) l o q d t (omega (arith, el)) }
+an-ack : (number : ℕ) → Sending (gets_ack number)
+unfolding taken_by wrong_code queue_reach step receive_ack
+an-ack number = record { queued = true; taken = refl; known = refl; reach = λ s. refl; refuses = λ s h. rw (le-leb 4294966000 s.clock.generation h) }
 
-  pub short-outbound : m < 65536 → AckTurns p n m k ShortBuffer
-  short-outbound h = record { call = λ l o q el eo eq number r t d. A.outbound-short number (opened_of p) l o q d t (omega (arith, eo)) }
-
+module _ (p : Parts) (n m k : ℕ) where
   pub short-queue : k < 32768 → AckTurns p n m k ShortBuffer
   short-queue h = record { call = λ l o q el eo eq number r t d. A.queue-short number (opened_of p) l o q d t (omega (arith, eq)) }
 
-  module _ (ln : 4096 ≤ n) (lm : 65536 ≤ m) (lk : 32768 ≤ k) where
-    pub unsound : sound_of (opened_of p) ≡ false → AckTurns p n m k BadRecord
-    unsound e =
-        record { call = λ l o q el eo eq number r t d. A.unsound number (opened_of p) l o q d (omega (arith, el)) (omega (arith, eo)) (omega (arith, eq)) t e }
-
-    pub spent : sound_of (opened_of p) ≡ true → Full (opened_of p) → 4294966000 ≤ (opened_of p).clock.generation → AckTurns p n m k GenerationsExhausted
-    spent e full h =
-        record {
-          call = λ l o q el eo eq number r t d.
-              A.exhausted number (opened_of p) l o q d (omega (arith, el)) (omega (arith, eo)) (omega (arith, eq)) e full t h;
-        }
-
--- the generation lies in the halves
-pub spent_in : (w h b : List ℕ) (t : Float) → 4294966000 ≤ at h 768 → 4294966000 ≤ (opened_of (parts w h b t)).clock.generation
-unfolding opened_of
-spent_in w h b t k = k
+  -- with a queue store as long as it is to be, what a send's tests find
+  pub found-so : 32768 ≤ k → (r : Result (Unit {0}) Refusal) → Found p n m r → AckFound p n m k r
+  found-so lk (Ok u) ready = (ready, lk)
+  found-so lk (Err x) f = record { call = λ l o q el eo eq number r t d. f.call (gets_ack number) (an-ack number) l d o q el eo (omega (arith, eq)) r t }
 
 -- a refusal by them, or none
 pub turned : (p : Parts) (l : List ℕ) (o q : Bytes) (number : ℕ) {r : Result (Unit {0}) Refusal} {x : Refusal} → AckFound p (length l) (length o) (length q) r → r ≡ Err x
@@ -245,5 +232,5 @@ pub turned : (p : Parts) (l : List ℕ) (o q : Bytes) (number : ℕ) {r : Result
 turned p l o q number k e f =
     refuses p _ f (λ v u. (subst (λ (z : Result (Unit {0}) Refusal). AckFound p (length l) (length o) (length q) z) e k).call l o q refl refl refl number v u)
 
-pub fits : (p : Parts) (n m k : ℕ) {r : Result (Unit {0}) Refusal} → AckFound p n m k r → r ≡ Ok tt → AckReady p n m × (32768 ≤ k)
+pub fits : (p : Parts) (n m k : ℕ) {r : Result (Unit {0}) Refusal} → AckFound p n m k r → r ≡ Ok tt → Ready p n m × (32768 ≤ k)
 fits p n m k found e = subst (λ (z : Result (Unit {0}) Refusal). AckFound p n m k z) e found

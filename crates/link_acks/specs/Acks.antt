@@ -1,34 +1,26 @@
 -- The steps of an ack on the parts of a session. Assumes nothing.
-use Rattle.std.specs.Prelude.{ℕ, ◌+◌, ◌-◌, ◌≤◌, ◌<◌, ◌≡◌, Bool, true, false, ◌||◌, List, ltb, Float, length, Result, Ok, Err}
+use Rattle.std.specs.Prelude.{ℕ, ◌+◌, ◌-◌, ◌≤◌, ◌≡◌, Bool, true, false, ◌||◌, List, ltb, Float, length, Result, Ok, Err}
 use Rattle.rules.specs.declared.Answer.TheVariants.{Refused}
 use Rattle.rules.specs.declared.Refusal.{Refusal}
 use Rattle.rules.specs.declared.Refusal.TheVariants.{AckOutOfRange}
 use Rattle.rules.specs.Lists.{Bytes}
 use Rattle.rules.specs.Calls.{gets_ack}
-use Rattle.peer_session.specs.Sound.{sound_of, Full}
 use Rattle.session.specs.declared.Returned.{Returned}
 use Rattle.session.specs.Promise.{CalledWithStores, Turned}
 use Rattle.acks.specs.Steps.{OutOfRange}
 use Rattle.parts.specs.declared.LinkAnswer.{LinkAnswer}
 use Rattle.parts.specs.Codes.{answer_of}
-use Rattle.parts.specs.Parts.{Parts, parts, at, opened_of}
+use Rattle.parts.specs.Parts.{Parts, parts, opened_of}
+use Rattle.link_sending.specs.Sends.{Ready}
 
--- ---- the tests in their order: the lengths of list and stores, the session, the generation
-
-pub record AckReady (p : Parts) (n m : ℕ) : Type 0 where
-  pub sound : sound_of (opened_of p) ≡ true
-  pub full : Full (opened_of p)
-  pub halves : length p.halves ≡ 772
-  pub list : 4096 ≤ n
-  pub outbound : 65536 ≤ m
-  pub low : at p.halves 768 < 4294966000
+-- ---- the tests: the queue store's length, and a send's
 
 pub record AckTurns (p : Parts) (n m k : ℕ) (x : Refusal) : Type 0 where
   pub call : (l : List ℕ) (o q : Bytes) → length l ≡ n → length o ≡ m → length q ≡ k → (number : ℕ) (r : Returned) → Turned (opened_of p) x r
       → CalledWithStores (gets_ack number) (opened_of p) l o q r l o q
 
 abbrev pub AckFound : Parts → ℕ → ℕ → ℕ → Result (Unit {0}) Refusal → Type 0
-AckFound p n m k (Ok tt) = AckReady p n m × (32768 ≤ k)
+AckFound p n m k (Ok tt) = Ready p n m × (32768 ≤ k)
 AckFound p n m k (Err x) = AckTurns p n m k x
 
 abbrev pub AckEnters : List ℕ → List ℕ → List ℕ → ℕ → ℕ → ℕ → Result (Unit {0}) Refusal → Type 0

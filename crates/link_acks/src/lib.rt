@@ -7,14 +7,15 @@ ghost use Rattle.rules.specs.Calls.{gets_ack};
 ghost use Rattle.session.specs.Promise.{CalledWithStores};
 ghost use Rattle.parts.specs.Parts.{parts, at, flag};
 ghost use Rattle.parts.specs.Driven.{Driven};
+ghost use Rattle.link_sending.specs.Sends.{Ready};
 ghost use Rattle.link_draining.specs.Steps.{Failing};
-ghost use Rattle.link_acks.specs.Acks.{AckReady, AckEnters, outside, BeyondIn, raised_if};
+ghost use Rattle.link_acks.specs.Acks.{AckEnters, outside, BeyondIn, raised_if};
 
 use parts::{Bytes, Halves, LinkAnswer, Words};
 use peer_session::SessionState;
 use rules::{Answer, Disposition, ReceiveMode, Refusal};
 
-// The tests of an ack, in their order.
+// The tests of an ack: the queue store's length, and a send's. A short list and a short store are one refusal, so their order is no matter.
 fn ack_enters(
     words: &Words,
     halves: &Halves,
@@ -25,22 +26,10 @@ fn ack_enters(
 ) -> Result<(), Refusal>
     ensures { AckEnters words.now halves.now bytes.now list outbound queue result }
 {
-    if list < SessionState::EVENT_WORDS {
-        return Err(Refusal::ShortBuffer);
-    }
-    if outbound < SessionState::OUTBOUND_BYTES {
-        return Err(Refusal::ShortBuffer);
-    }
     if queue < SessionState::QUEUE_BYTES {
         return Err(Refusal::ShortBuffer);
     }
-    if !link_sound::sound(words, halves, bytes) {
-        return Err(Refusal::BadRecord);
-    }
-    if SessionState::GENERATION_LIMIT <= halves[parts::GENERATION] {
-        return Err(Refusal::GenerationsExhausted);
-    }
-    Ok(())
+    link_sending::enters(words, halves, bytes, list, outbound)
 }
 
 // Whether an ack is of no message that was sent.
@@ -97,7 +86,7 @@ fn acknowledged(
     outbound: &mut [u8],
     number: u64,
 ) -> LinkAnswer
-    requires { AckReady (parts words.old halves.old bytes.old clock.now) (length list.old) (length outbound.old) × (outside number (at words.old 0) ≡ false) }
+    requires { Ready (parts words.old halves.old bytes.old clock.now) (length list.old) (length outbound.old) × (outside number (at words.old 0) ≡ false) }
     ensures { (q : Bytes) → 32768 ≤ length q → Driven (parts words.old halves.old bytes.old clock.now) (parts words.new halves.new bytes.new clock.now) result (λ s y. CalledWithStores (gets_ack number) s list.old outbound.old q y list.new outbound.new q) }
 {
     let before = words[parts::UNACKED];

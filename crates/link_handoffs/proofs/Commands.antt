@@ -10,13 +10,12 @@ use lib.Ieee.{Float}
 use lib.ListN.{length}
 use Rattle.rules.specs.declared.Answer.TheVariants.{Refused}
 use Rattle.rules.specs.declared.Refusal.{Refusal}
-use Rattle.rules.specs.declared.Refusal.TheVariants.{ShortBuffer, BadRecord, GenerationsExhausted, HandoffTooLong}
+use Rattle.rules.specs.declared.Refusal.TheVariants.{HandoffTooLong}
 use Rattle.rules.specs.Lists.{Bytes}
 use Rattle.rules.specs.Handoff.{Command}
 use Rattle.rules.specs.Calls.{commands}
 use Rattle.outbox.specs.View.{ExactOutbox}
 use Rattle.peer_session.specs.View.{state_of}
-use Rattle.peer_session.specs.Sound.{sound_of, Checked}
 use Rattle.session.specs.Promise.{CalledWithOutbound}
 use Rattle.session.proofs.Lengths.{not_taken}
 use Rattle.setup.proofs.Lending as L
@@ -29,57 +28,28 @@ use Rattle.parts.specs.Driven.{Driven}
 use Rattle.parts.proofs.Drives.{refuses}
 use Rattle.link_sound.proofs.Parts.{usable}
 use Rattle.link_setup.proofs.Stages.{long-bytes}
-use Rattle.link_handoffs.specs.Commands.{Commanding, NotCommanding, Enters, Starts, ComesIn, HoldingIn}
+use Rattle.link_sending.specs.Sends.{Ready, Sending, Turns}
+use Rattle.link_handoffs.specs.Commands.{NotCommanding, Enters, Starts, ComesIn, HoldingIn}
 use Rattle.link_handoffs.proofs.Steps.{started, still_checked, still_low}
 
--- ---- the tests
+-- ---- the tests, after a send's
 
-module _ (p : Parts) {n m k : ℕ} where
-  pub short-list : n < 4096 → NotCommanding p n m k ShortBuffer
-  short-list h = record { call = λ restoring present id body e l o d q el eo lq r t. L.list-short plain (opened_of p) l d o q refl t (omega (arith, el)) }
+a-command-call : (restoring : Bool) (c : Option Command) → Sending (commands restoring c)
+a-command-call restoring c = record { queued = false; taken = plain.taken; known = plain.known; reach = plain.reach; refuses = spent restoring c }
 
-  pub short-outbound : m < 65536 → NotCommanding p n m k ShortBuffer
-  short-outbound h = record { call = λ restoring present id body e l o d q el eo lq r t. L.outbound-short plain (opened_of p) l d o q refl t (omega (arith, eo)) }
+pub stopped_before : (p : Parts) {n m k : ℕ} {x : Refusal} → Turns p n m x → NotCommanding p n m k x
+stopped_before p f =
+    record { call = λ restoring present id body e l o d q. f.call (commands restoring (command_of present id body)) (a-command-call restoring (command_of present id body)) l d o q }
 
-  module _ (ln : 4096 ≤ n) (lm : 65536 ≤ m) where
-    pub unsound : sound_of (opened_of p) ≡ false → NotCommanding p n m k BadRecord
-    unsound f =
-        record {
-          call = λ restoring present id body e l o d q el eo lq r t.
-              L.unsound plain (opened_of p) l d o q (λ x. omega (arith, el)) (λ x. omega (arith, eo)) not_taken t f;
-        }
-
-    module _ (c : Checked (opened_of p) true) where
-      at-end : 4294966000 ≤ (opened_of p).clock.generation → NotCommanding p n m k GenerationsExhausted
-      at-end h =
-          record {
-            call = λ restoring present id body e l o d q el eo lq r t.
-                L.refused plain (opened_of p) l d o q (λ x. omega (arith, el)) (λ x. omega (arith, eo)) not_taken (sym c.is) c.full (omega (arith, eo)) lq t
-                (spent restoring (command_of present id body) (state_of (opened_of p) o q) h);
-          }
-
-      long-body : (opened_of p).clock.generation < 4294966000 → 4096 < k → NotCommanding p n m k HandoffTooLong
-      long-body h f =
-          record {
-            call = λ restoring present id body e l o d q el eo lq r t.
-                L.refused plain (opened_of p) l d o q (λ x. omega (arith, el)) (λ x. omega (arith, eo)) not_taken (sym c.is) c.full (omega (arith, eo)) lq t
-                (too_long restoring (command_of present id body) (state_of (opened_of p) o q) h (omega (arith, e ∙ size_is present id body)));
-          }
-
--- by the number of the parts
-module _ (w h b : List ℕ) (t : Float) {n m k : ℕ} (ln : 4096 ≤ n) (lm : 65536 ≤ m) (c : Checked (opened_of (parts w h b t)) true) where
-  pub at_limit : 4294966000 ≤ at h 768 → NotCommanding (parts w h b t) n m k GenerationsExhausted
-  unfolding opened_of
-  at_limit e = at-end (parts w h b t) ln lm c e
-
-  module _ (low : at h 768 < 4294966000) where
-    pub size_too_long : 4096 < k → NotCommanding (parts w h b t) n m k HandoffTooLong
-    unfolding opened_of
-    size_too_long e = long-body (parts w h b t) ln lm c low e
-
-    pub may_command : k ≤ 4096 → Commanding (parts w h b t) n m × (k ≤ 4096)
-    unfolding opened_of
-    may_command e = (record { checked = c; list = ln; outbound = lm; low = low }, e)
+module _ (p : Parts) {n m k : ℕ} (ready : Ready p n m) where
+  pub size_too_long : 4096 < k → NotCommanding p n m k HandoffTooLong
+  size_too_long f =
+      record {
+        call = λ restoring present id body e l o d q el eo lq r t.
+            L.refused plain (opened_of p) l d o q (λ x. omega (arith, el, ready.list)) (λ x. omega (arith, eo, ready.outbound)) not_taken (sym ready.checked.is) ready.checked.full
+            (omega (arith, eo, ready.outbound)) lq t
+            (too_long restoring (command_of present id body) (state_of (opened_of p) o q) ready.low (omega (arith, e ∙ size_is present id body)));
+      }
 
 -- what they refuse
 pub turned : (w h b : List ℕ) (t : Float) (l : List ℕ) (o : Bytes) (restoring present : Bool) (id : ℕ) (body : Bytes) {k : ℕ} → k ≡ (if present then length body else 0) → {x : Refusal}
@@ -91,8 +61,8 @@ turned w h b t l o restoring present id body ek {x} f z =
 -- ---- past them
 
 -- the session in which it is carried out
-module _ (w h b : List ℕ) (t : Float) {n m : ℕ} (ready : Commanding (parts w h b t) n m) (lh : length h ≡ 772) (restoring : Bool) {h₁ b₁ : List ℕ} (s : Starts restoring h b h₁ b₁) where
-  pub commanding_in : Commanding (parts w h₁ b₁ t) n m
+module _ (w h b : List ℕ) (t : Float) {n m : ℕ} (ready : Ready (parts w h b t) n m) (lh : length h ≡ 772) (restoring : Bool) {h₁ b₁ : List ℕ} (s : Starts restoring h b h₁ b₁) where
+  pub commanding_in : Ready (parts w h₁ b₁ t) n m
   commanding_in =
       record {
         checked = still_checked restoring (opened_of (parts w h b t)) (started w h b t ready.checked lh restoring s) ready.checked;
@@ -102,7 +72,7 @@ module _ (w h b : List ℕ) (t : Float) {n m : ℕ} (ready : Commanding (parts w
       }
 
 -- what soundness says of it
-module _ (w h b : List ℕ) (t : Float) {n : ℕ} (o : Bytes) (ready : Commanding (parts w h b t) n (length o)) where
+module _ (w h b : List ℕ) (t : Float) {n : ℕ} (o : Bytes) (ready : Ready (parts w h b t) n (length o)) where
   pub exact_in : ExactOutbox (outbox_in w h b) (length o)
   exact_in = (usable w h b t ready.checked).unacked o ready.outbound
 
@@ -122,7 +92,7 @@ pub by_command : (restoring : Bool) {c d : Option Command} → c ≡ d → {p p'
 by_command restoring e w = rw e w
 
 pub drives : (w h b : List ℕ) (t : Float) (l : List ℕ) (o : Bytes) (restoring present : Bool) (id : ℕ) (body : Bytes) {k : ℕ} → k ≡ (if present then length body else 0)
-    → Commanding (parts w h b t) (length l) (length o) × (k ≤ 4096) → length h ≡ 772 → {h₁ b₁ : List ℕ} → Starts restoring h b h₁ b₁ → {p' : Parts} {l' : List ℕ} {o' : Bytes} {y : LinkAnswer}
+    → Ready (parts w h b t) (length l) (length o) × (k ≤ 4096) → length h ≡ 772 → {h₁ b₁ : List ℕ} → Starts restoring h b h₁ b₁ → {p' : Parts} {l' : List ℕ} {o' : Bytes} {y : LinkAnswer}
     → ComesIn (commanding restoring (command_of present id body)) (parts w h₁ b₁ t) p' l o y l' o'
     → Driven (parts w h b t) p' y (λ s r. CalledWithOutbound (commands restoring (command_of present id body)) s l o r l' o')
 drives w h b t l o restoring present id body ek (ready, few) lh st g =

@@ -35,7 +35,7 @@ use Rattle.parts.proofs.Fields.{Agree, outbox-same, queue-same, numbers-same, co
 use Rattle.parts.proofs.Opened.{opened_as}
 use Rattle.parts.proofs.After.{agree_all}
 use Rattle.link_sound.proofs.Parts.{usable}
-use Rattle.link_sending.specs.Sends.{AllocatesIn}
+use Rattle.link_sending.specs.Sends.{Ready, AllocatesIn}
 use Rattle.link_sending.proofs.Sends.{raised, left, clock-raised}
 use Rattle.link_setup.specs.Steps.{Stages}
 use Rattle.link_setup.proofs.Stages.{stage_is, restaged, stages_apart, stage-starts, long-words, long-bytes}
@@ -43,7 +43,7 @@ use Rattle.link_setup.proofs.Joins.{grown, joins, joins_not}
 use Rattle.link_starts.specs.Steps.{Between}
 use Rattle.link_restores.specs.Handed.{HandedIn}
 use Rattle.link_restores.proofs.Handoffs.{flag-there, flag_gone}
-use Rattle.link_handoffs.specs.Commands.{Commanding, no_terms, Starts, ComesIn, AsksIn}
+use Rattle.link_handoffs.specs.Commands.{no_terms, Starts, ComesIn, AsksIn}
 
 -- ---- a step that leaves the parts
 
@@ -167,7 +167,7 @@ module _ (w h b : List ℕ) (t : Float) (lw : 1296 ≤ length w) (lb : 4936 ≤ 
       (policy-same (high_words 10 14 (omega arith)))
       (reject-same lb kb.size (high_words 14 15 (omega arith)) (high_bytes 4872 4936 (omega arith)))
 
-module _ (w h b : List ℕ) (t : Float) (l : List ℕ) (o body : Bytes) (id : ℕ) (ready : Commanding (parts w h b t) (length l) (length o)) (none-there : flag (at b 775) ≡ false) where
+module _ (w h b : List ℕ) (t : Float) (l : List ℕ) (o body : Bytes) (id : ℕ) (ready : Ready (parts w h b t) (length l) (length o)) (none-there : flag (at b 775) ≡ false) where
   abbrev k : Checked (opened_of (parts w h b t)) true
   k = ready.checked
 

@@ -1,5 +1,5 @@
 -- The steps of a command on the parts of a session. Assumes nothing.
-use Rattle.std.specs.Prelude.{ℕ, ◌≤◌, ◌<◌, ◌≡◌, Bool, true, false, List, Float, length, if◌then◌else◌, Result, Ok, Err}
+use Rattle.std.specs.Prelude.{ℕ, ◌≤◌, ◌≡◌, Bool, true, false, List, Float, length, if◌then◌else◌, Result, Ok, Err}
 use Rattle.rules.specs.declared.Clock.{Clock}
 use Rattle.rules.specs.declared.Refusal.{Refusal}
 use Rattle.rules.specs.declared.Answer.TheVariants.{Done}
@@ -11,7 +11,6 @@ use Rattle.rules.specs.Calls.{commands}
 use Rattle.events.specs.Written.{Listed, asked}
 use Rattle.outbox.specs.View.{ExactOutbox}
 use Rattle.outbox.specs.Sound.{sound_outbox_of}
-use Rattle.peer_session.specs.Sound.{Checked}
 use Rattle.session.specs.declared.Returned.{Returned}
 use Rattle.session.specs.Promise.{lent, Called, Turned}
 use Rattle.setup.specs.Steps.{Comes}
@@ -19,15 +18,10 @@ use Rattle.handoffs.specs.Commands.{command_of}
 use Rattle.parts.specs.declared.LinkAnswer.{LinkAnswer}
 use Rattle.parts.specs.Codes.{answer_of}
 use Rattle.parts.specs.Parts.{Parts, parts, at, flag, outbox_in, opened_of}
+use Rattle.link_sending.specs.Sends.{Ready}
 use Rattle.link_setup.specs.Steps.{Stages}
 
--- ---- the tests in their order, for a list of n words, an outbound store of m bytes and a body of which k bytes count
-
-pub record Commanding (p : Parts) (n m : ℕ) : Type 0 where
-  pub checked : Checked (opened_of p) true
-  pub list : 4096 ≤ n
-  pub outbound : 65536 ≤ m
-  pub low : (opened_of p).clock.generation < 4294966000
+-- ---- the tests in their order, a send's and the body's: for a list of n words, an outbound store of m bytes and a body of which k bytes count
 
 pub record NotCommanding (p : Parts) (n m k : ℕ) (x : Refusal) : Type 0 where
   pub call : (restoring present : Bool) (id : ℕ) (body : Bytes) → k ≡ (if present then length body else 0) → (l : List ℕ) (o d q : Bytes) → length l ≡ n → length o ≡ m
@@ -35,7 +29,7 @@ pub record NotCommanding (p : Parts) (n m k : ℕ) (x : Refusal) : Type 0 where
       → Called (commands restoring (command_of present id body)) (opened_of p) (lent l d o q) r (lent l d o q)
 
 abbrev pub Found : Parts → ℕ → ℕ → ℕ → Result (Unit {0}) Refusal → Type 0
-Found p n m k (Ok tt) = Commanding p n m × (k ≤ 4096)
+Found p n m k (Ok tt) = Ready p n m × (k ≤ 4096)
 Found p n m k (Err x) = NotCommanding p n m k x
 
 abbrev pub Enters : List ℕ → List ℕ → List ℕ → ℕ → ℕ → ℕ → Result (Unit {0}) Refusal → Type 0

@@ -12,14 +12,15 @@ ghost use Rattle.session.specs.Promise.{CalledWithOutbound};
 ghost use Rattle.handoffs.specs.Commands.{command_of, commanding, carries_body, validating};
 ghost use Rattle.parts.specs.Parts.{parts, at, flag, section, clock_in, outbox_in};
 ghost use Rattle.parts.specs.Driven.{Driven};
-ghost use Rattle.link_handoffs.specs.Commands.{Commanding, Enters, Starts, ComesIn, AsksIn, HoldingIn};
+ghost use Rattle.link_sending.specs.Sends.{Ready};
+ghost use Rattle.link_handoffs.specs.Commands.{Enters, Starts, ComesIn, AsksIn, HoldingIn};
 
 use parts::{Bytes, Halves, LinkAnswer, SetupCode, Words};
 use peer_session::SessionState;
 use restores::Handoff;
 use rules::{Refusal, Terms};
 
-// The tests of a command, in their order: size is how many bytes of its body count.
+// The tests of a command, in their order, a send's first: size is how many bytes of its body count.
 fn enters(
     words: &Words,
     halves: &Halves,
@@ -30,18 +31,7 @@ fn enters(
 ) -> Result<(), Refusal>
     ensures { Enters words.now halves.now bytes.now list outbound size result }
 {
-    if list < SessionState::EVENT_WORDS {
-        return Err(Refusal::ShortBuffer);
-    }
-    if outbound < SessionState::OUTBOUND_BYTES {
-        return Err(Refusal::ShortBuffer);
-    }
-    if !link_sound::sound(words, halves, bytes) {
-        return Err(Refusal::BadRecord);
-    }
-    if SessionState::GENERATION_LIMIT <= halves[parts::GENERATION] {
-        return Err(Refusal::GenerationsExhausted);
-    }
+    link_sending::enters(words, halves, bytes, list, outbound)?;
     if SessionState::MAX_HANDOFF < size {
         return Err(Refusal::HandoffTooLong);
     }
@@ -174,7 +164,7 @@ fn hand_off(
     id: u64,
     body: &[u8],
 ) -> LinkAnswer
-    requires { Commanding (parts words.old halves.old bytes.old clock.now) (length list.old) (length outbound.old) × (flag (at bytes.old 775) ≡ false) × (length body.now ≤ 4096) }
+    requires { Ready (parts words.old halves.old bytes.old clock.now) (length list.old) (length outbound.old) × (flag (at bytes.old 775) ≡ false) × (length body.now ≤ 4096) }
     ensures { (restoring : Bool) → ComesIn (commanding restoring (some (record { id = id; body = body.now }))) (parts words.old halves.old bytes.old clock.now) (parts words.new halves.new bytes.new clock.now) list.old outbound.old result list.new outbound.new }
 {
     let number = words[parts::NEXT];
@@ -236,7 +226,7 @@ fn goes(
     id: u64,
     body: &[u8],
 ) -> LinkAnswer
-    requires { Commanding (parts words.old halves.old bytes.old clock.now) (length list.old) (length outbound.old) × (present ≡ true → length body.now ≤ 4096) }
+    requires { Ready (parts words.old halves.old bytes.old clock.now) (length list.old) (length outbound.old) × (present ≡ true → length body.now ≤ 4096) }
     ensures { ComesIn (commanding restoring (command_of present id body.now)) (parts words.old halves.old bytes.old clock.now) (parts words.new halves.new bytes.new clock.now) list.old outbound.old result list.new outbound.new }
 {
     if !present {

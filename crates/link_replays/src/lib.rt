@@ -13,7 +13,7 @@ use parts::{Bytes, Halves, LinkAnswer, Words};
 use peer_session::SessionState;
 use rules::{Connectivity, Refusal};
 
-// The tests of an event, in their order.
+// The tests of an event, in their order. Not one with a report's: each reads its own code between list and session, and a generic one would need `TryFrom`'s contract in its own.
 fn enters(
     words: &Words,
     halves: &Halves,

@@ -17,7 +17,7 @@ use rules::{EventCode, FrameKind, Refusal};
 
 // ---- a report of a send
 
-// The tests of a report, in their order.
+// The tests of a report, in their order. Not one with an event's, as link_replays says.
 fn report_enters(
     words: &Words,
     halves: &Halves,

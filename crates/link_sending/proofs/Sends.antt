@@ -1,25 +1,31 @@
 -- A send on the parts of a session, by what it leaves of them. Assumes nothing.
 use Prim.Native.Nat.{ℕ, ◌+◌, ◌≤◌, ◌<◌}
 use mathlib.Core.Path.{◌≡◌, refl, sym, ap, ◌∙◌, subst}
-use mathlib.Core.Bool.{true, false}
+use mathlib.Core.Bool.{Bool, true, false}
 use mathlib.Core.List.{List}
 use native.Mathlib.Omega.{arith}
 use lib.Ieee.{Float}
 use lib.ListN.{length, set, length-set, length-take, length-drop}
 use lib.Seq.{get_or-set_same, get_or-set_other}
+use borrow.Author.Tests.{le-leb}
 use Rattle.rules.specs.declared.Answer.TheVariants.{Number, Refused}
 use Rattle.rules.specs.declared.Refusal.{Refusal}
 use Rattle.rules.specs.declared.Refusal.TheVariants.{ShortBuffer, BadRecord, GenerationsExhausted}
 use Rattle.rules.specs.declared.Clock.{Clock}
 use Rattle.rules.specs.Lists.{Bytes, total}
-use Rattle.rules.specs.Calls.{sends}
+use Rattle.rules.specs.Sending.{send}
+use Rattle.rules.specs.Calls.{Call, sends, step}
+use Rattle.rules.specs.Buffers.{taken_by, wrong_code, queue_reach}
 use Rattle.std.specs.Prelude.{Ok, Err}
 use Rattle.outbox.specs.View.{len_u, end_u, ExactOutbox}
 use Rattle.peer_session.specs.Allocates.{Allocates}
 use Rattle.events.specs.Written.{Listed, asked}
-use Rattle.peer_session.specs.Sound.{sound_of, Full}
+use Rattle.peer_session.specs.declared.SessionState.{SessionState}
+use Rattle.peer_session.specs.View.{state_of}
+use Rattle.peer_session.specs.Sound.{sound_of, Checked}
 use Rattle.session.specs.Promise.{CalledWithOutbound}
 use Rattle.peer_session.proofs.View as View
+use Rattle.setup.proofs.Lending as L
 use Rattle.sending.proofs.Sends as S
 use Rattle.parts.specs.declared.LinkAnswer.{LinkAnswer}
 use Rattle.parts.specs.Codes.{answer_of}
@@ -32,7 +38,7 @@ use Rattle.parts.proofs.After.{Kept, other, after, agree_all}
 use Rattle.parts.proofs.Drives.{changes, refuses}
 use Rattle.link_outbox.specs.Steps.{Joins}
 use Rattle.link_outbox.proofs.Records.{past_same}
-use Rattle.link_sending.specs.Sends.{Ready, Turns, AllocatesIn}
+use Rattle.link_sending.specs.Sends.{Ready, Sending, Turns, AllocatesIn}
 
 -- ---- a message joined and the generation is raised: the session that the parts are then
 
@@ -81,19 +87,19 @@ module _ (w h b : List ℕ) (t : Float) {o body : Bytes} (lw : 1296 ≤ length w
 module _ (w h b : List ℕ) (t : Float) (l : List ℕ) (o body : Bytes) (ready : Ready (parts w h b t) (length l) (length o)) where
   lw : 1296 ≤ length w
   unfolding opened_of
-  lw = omega (arith, simp (length-take, length-drop) at ready.full.retry)
+  lw = omega (arith, simp (length-take, length-drop) at ready.checked.full.retry)
 
   lb : 4936 ≤ length b
   unfolding opened_of
-  lb = omega (arith, simp (length-take, length-drop) at ready.full.reject)
+  lb = omega (arith, simp (length-take, length-drop) at ready.checked.full.reject)
 
   pub went : length h ≡ 772 → {w' h' b' : List ℕ} {o' : Bytes} → AllocatesIn body w h b o (Ok tt) w' h' b' o' → {k : Clock} → k ≡ clock_in (raised h h') t
       → {l' : List ℕ} {n : ℕ} → Listed (asked k) l 0 l' n → {y : LinkAnswer} → y ≡ answer_of (Number (at w 0)) n
       → Driven (parts w h b t) (parts w' (raised h h') b' t) y (λ s r. CalledWithOutbound (sends body) s l o r l' o')
   unfolding opened_of
   went lh {w'} {h'} {b'} a ek {l'} {n} li f =
-      changes (parts w h b t) ready.sound (parts w' (raised h h') b' t) _ (left w h b t lw lb lh a) (Number (at w 0)) n f
-      (λ d q lq. S.went (opened_of (parts w h b t)) l o body d q ready.list ready.outbound ready.sound ready.full lq ready.low a.allocates (subst (λ (c : Clock). Listed (asked c) l 0 l' n) (ek ∙ clock-raised w h b t lw lb lh a) li))
+      changes (parts w h b t) (sym ready.checked.is) (parts w' (raised h h') b' t) _ (left w h b t lw lb lh a) (Number (at w 0)) n f
+      (λ d q lq. S.went (opened_of (parts w h b t)) l o body d q ready.list ready.outbound (sym ready.checked.is) ready.checked.full lq ready.low a.allocates (subst (λ (c : Clock). Listed (asked c) l 0 l' n) (ek ∙ clock-raised w h b t lw lb lh a) li))
 
   -- a refusal, by the number of messages or the room that is left
   pub stopped : {w' h' b' : List ℕ} {o' : Bytes} {x : Refusal} → AllocatesIn body w h b o (Err x) w' h' b' o' → {y : LinkAnswer} → y ≡ answer_of (Refused x) 0
@@ -102,7 +108,7 @@ module _ (w h b : List ℕ) (t : Float) (l : List ℕ) (o body : Bytes) (ready :
   stopped {o' = o'} {x = x} k {y} f =
       subst (λ (g : Float → Parts). Driven (parts w h b t) (g t) y (λ s r. CalledWithOutbound (sends body) s l o r l o')) (sym (k.kept x refl))
       (refuses (parts w h b t) x f
-      (λ r u d q lq. S.refused (opened_of (parts w h b t)) l o body d q ready.list ready.outbound ready.sound ready.full lq ready.low k.allocates u))
+      (λ r u d q lq. S.refused (opened_of (parts w h b t)) l o body d q ready.list ready.outbound (sym ready.checked.is) ready.checked.full lq ready.low k.allocates u))
 
 -- ---- a message joins, or does not
 
@@ -135,7 +141,7 @@ ends_at w h b few = ap (total len_u) (sym (take-seats (at w 1) 256 (unacked_at h
 -- what a message that joins asks
 pub exact-outbox : (w h b : List ℕ) (t : Float) {n : ℕ} (o : Bytes) → Ready (parts w h b t) n (length o) → ExactOutbox (outbox_in w h b) (length o)
 unfolding opened_of
-exact-outbox w h b t o r = (View.parts (opened_of (parts w h b t)) r.sound r.full).unacked o r.outbound
+exact-outbox w h b t o r = (View.parts (opened_of (parts w h b t)) (sym r.checked.is) r.checked.full).unacked o r.outbound
 
 pub low_generation : (w h b : List ℕ) (t : Float) {n m : ℕ} → Ready (parts w h b t) n m → at h 768 < 4294966000
 unfolding opened_of
@@ -143,21 +149,42 @@ low_generation w h b t r = r.low
 
 -- ---- the tests
 
+-- what a test of soundness found, by its answer
+pub found-sound : {s : SessionState} {r : Bool} → Checked s r → r ≡ true → Checked s true
+found-sound k e = record { is = sym e ∙ k.is; full = k.full }
+
+plain : {c : Call} (g : Sending c) → L.Plain c true true g.queued
+plain g = record { taken = g.taken; known = g.known; reach = g.reach }
+
 module _ (p : Parts) {n m : ℕ} where
   pub short-list : n < 4096 → Turns p n m ShortBuffer
-  short-list h = record { call = λ l o b d q el eo lq r t. S.list-short (opened_of p) l o b d q t (omega (arith, el)) }
+  short-list h = record { call = λ c g l d o q el eo lq r t. L.list-short (plain g) (opened_of p) l d o q refl t (omega (arith, el)) }
 
   pub short-outbound : m < 65536 → Turns p n m ShortBuffer
-  short-outbound h = record { call = λ l o b d q el eo lq r t. S.outbound-short (opened_of p) l o b d q t (omega (arith, eo)) }
+  short-outbound h = record { call = λ c g l d o q el eo lq r t. L.outbound-short (plain g) (opened_of p) l d o q refl t (omega (arith, eo)) }
 
-  pub unsound : 4096 ≤ n → 65536 ≤ m → sound_of (opened_of p) ≡ false → Turns p n m BadRecord
-  unsound ln lm e = record { call = λ l o b d q el eo lq r t. S.unsound (opened_of p) l o b d q (omega (arith, el)) (omega (arith, eo)) t e }
+  module _ (ln : 4096 ≤ n) (lm : 65536 ≤ m) where
+    pub unsound : sound_of (opened_of p) ≡ false → Turns p n m BadRecord
+    unsound e =
+        record {
+          call = λ c g l d o q el eo lq r t.
+              L.unsound (plain g) (opened_of p) l d o q (λ x. omega (arith, el)) (λ x. omega (arith, eo)) (λ x. lq) t e;
+        }
 
-  pub spent : 4096 ≤ n → 65536 ≤ m → sound_of (opened_of p) ≡ true → Full (opened_of p) → 4294966000 ≤ (opened_of p).clock.generation → Turns p n m GenerationsExhausted
-  spent ln lm e full h =
-      record { call = λ l o b d q el eo lq r t. S.exhausted (opened_of p) l o b d q (omega (arith, el)) (omega (arith, eo)) e full lq t h }
+    pub spent : Checked (opened_of p) true → 4294966000 ≤ (opened_of p).clock.generation → Turns p n m GenerationsExhausted
+    spent k h =
+        record {
+          call = λ c g l d o q el eo lq r t.
+              L.refused (plain g) (opened_of p) l d o q (λ x. omega (arith, el)) (λ x. omega (arith, eo)) (λ x. lq) (sym k.is) k.full (omega (arith, eo)) lq t
+              (g.refuses (state_of (opened_of p) o q) h);
+        }
 
 -- a refusal by them
-pub turned : (p : Parts) (l : List ℕ) (o body : Bytes) (x : Refusal) → Turns p (length l) (length o) x → {y : LinkAnswer} → y ≡ answer_of (Refused x) 0
-    → Driven p p y (λ s r. CalledWithOutbound (sends body) s l o r l o)
-turned p l o body x k e = refuses p x e (λ r u d q lq. k.call l o body d q refl refl lq r u)
+pub turned : {c : Call} → Sending c → (p : Parts) (l : List ℕ) (o : Bytes) {x : Refusal} → Turns p (length l) (length o) x → {y : LinkAnswer} → y ≡ answer_of (Refused x) 0
+    → Driven p p y (λ s r. CalledWithOutbound c s l o r l o)
+turned {c} g p l o {x} k e = refuses p x e (λ r u d q lq. k.call c g l d o q refl refl lq r u)
+
+-- of a send
+pub a-send : (body : Bytes) → Sending (sends body)
+unfolding taken_by wrong_code queue_reach step send
+a-send body = record { queued = false; taken = refl; known = refl; reach = λ s. refl; refuses = λ s h. rw (le-leb 4294966000 s.clock.generation h) }

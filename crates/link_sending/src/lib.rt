@@ -13,8 +13,8 @@ use parts::{Bytes, Halves, LinkAnswer, Words};
 use peer_session::SessionState;
 use rules::Refusal;
 
-// The tests of a send, in their order.
-fn enters(
+// The tests at the entry of a call that sends a message, in their order: of a send, a reject and a command; an ack makes them too.
+pub fn enters(
     words: &Words,
     halves: &Halves,
     bytes: &Bytes,

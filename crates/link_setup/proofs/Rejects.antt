@@ -1,22 +1,20 @@
 -- A reject on the parts of a session, by what it leaves of them. Assumes nothing.
-use Prim.Native.Nat.{ℕ, ◌≤◌, ◌<◌}
+use Prim.Native.Nat.{ℕ, ◌≤◌}
 use mathlib.Core.Path.{◌≡◌, refl, sym, subst}
 use mathlib.Core.Bool.{true, false}
 use mathlib.Core.List.{List}
-use native.Mathlib.Omega.{arith}
 use lib.Ieee.{Float}
 use lib.ListN.{length, set, take}
 use Rattle.rules.specs.declared.Answer.TheVariants.{Done, Refused}
 use Rattle.rules.specs.declared.Clock.{Clock}
 use Rattle.rules.specs.declared.Refusal.{Refusal}
-use Rattle.rules.specs.declared.Refusal.TheVariants.{ShortBuffer, BadRecord, GenerationsExhausted}
 use Rattle.rules.specs.Lists.{Bytes}
 use Rattle.rules.specs.Calls.{rejects}
 use Rattle.std.specs.Prelude.{Ok, Err}
 use Rattle.events.specs.Written.{Listed, asked}
 use Rattle.peer_session.specs.declared.RejectBody.{RejectBody}
 use Rattle.peer_session.specs.View.{state_of}
-use Rattle.peer_session.specs.Sound.{sound_of, Checked}
+use Rattle.peer_session.specs.Sound.{Checked}
 use Rattle.session.specs.Promise.{CalledWithOutbound}
 use Rattle.session.proofs.Lengths.{not_taken}
 use Rattle.setup.proofs.Lending as L
@@ -27,60 +25,24 @@ use Rattle.parts.specs.Codes.{answer_of}
 use Rattle.parts.specs.Parts.{Parts, parts, at, clock_in, reject_in, opened_of}
 use Rattle.parts.specs.Driven.{Driven}
 use Rattle.parts.proofs.Drives.{changes, refuses}
-use Rattle.link_sending.specs.Sends.{AllocatesIn}
+use Rattle.link_sending.specs.Sends.{Ready, Sending, AllocatesIn}
 use Rattle.link_sending.proofs.Sends.{raised, clock-raised}
-use Rattle.link_setup.specs.Steps.{Rejecting, NotRejecting, RejectEnters}
 use Rattle.link_setup.proofs.Stages.{long-words, long-bytes}
 use Rattle.link_setup.proofs.Joins.{joins, joins_not, joined_under}
 
--- ---- the tests
-
-module _ (p : Parts) {n m : ℕ} where
-  pub short-list : n < 4096 → NotRejecting p n m ShortBuffer
-  short-list h = record { call = λ l o d q el eo lq r t. L.list-short rejects_plain (opened_of p) l d o q refl t (omega (arith, el)) }
-
-  pub short-outbound : m < 65536 → NotRejecting p n m ShortBuffer
-  short-outbound h = record { call = λ l o d q el eo lq r t. L.outbound-short rejects_plain (opened_of p) l d o q refl t (omega (arith, eo)) }
-
-  module _ (ln : 4096 ≤ n) (lm : 65536 ≤ m) where
-    pub unsound : sound_of (opened_of p) ≡ false → NotRejecting p n m BadRecord
-    unsound e =
-        record {
-          call = λ l o d q el eo lq r t. L.unsound rejects_plain (opened_of p) l d o q (λ x. omega (arith, el)) (λ x. omega (arith, eo)) not_taken t e;
-        }
-
-    spent : Checked (opened_of p) true → 4294966000 ≤ (opened_of p).clock.generation → NotRejecting p n m GenerationsExhausted
-    spent k h =
-        record {
-          call = λ l o d q el eo lq r t.
-              L.refused rejects_plain (opened_of p) l d o q (λ x. omega (arith, el)) (λ x. omega (arith, eo)) not_taken (sym k.is) k.full (omega (arith, eo)) lq t
-              (reject_spent (state_of (opened_of p) o q) h);
-        }
-
--- by the number of the parts
-module _ (w h b : List ℕ) (t : Float) {n m : ℕ} (ln : 4096 ≤ n) (lm : 65536 ≤ m) (k : Checked (opened_of (parts w h b t)) true) where
-  pub at_limit : 4294966000 ≤ at h 768 → NotRejecting (parts w h b t) n m GenerationsExhausted
-  unfolding opened_of
-  at_limit e = spent (parts w h b t) ln lm k e
-
-  pub may_reject : at h 768 < 4294966000 → Rejecting (parts w h b t) n m
-  unfolding opened_of
-  may_reject e = record { checked = k; list = ln; outbound = lm; low = e }
-
--- what they refuse
-pub turned : (w h b : List ℕ) (t : Float) (l : List ℕ) (o : Bytes) {x : Refusal} → RejectEnters w h b (length l) (length o) (Err x) → {y : LinkAnswer} → y ≡ answer_of (Refused x) 0
-    → Driven (parts w h b t) (parts w h b t) y (λ s r. CalledWithOutbound rejects s l o r l o)
-turned w h b t l o {x} f z = refuses (parts w h b t) x z (λ r u d q lq. (f t).call l o d q refl refl lq r u)
+-- its tests are a send's
+pub a-reject : Sending rejects
+a-reject = record { queued = false; taken = rejects_plain.taken; known = rejects_plain.known; reach = rejects_plain.reach; refuses = reject_spent }
 
 -- ---- past them
 
 -- the reject body lies within its array
-pub body-within : (w h b : List ℕ) (t : Float) {n : ℕ} (o : Bytes) → Rejecting (parts w h b t) n (length o) → (j : RejectBody) → j ≡ reject_in w b → j.len ≤ length j.bytes
+pub body-within : (w h b : List ℕ) (t : Float) {n : ℕ} (o : Bytes) → Ready (parts w h b t) n (length o) → (j : RejectBody) → j ≡ reject_in w b → j.len ≤ length j.bytes
 unfolding opened_of
 body-within w h b t o ready j e =
     rw e (reject-within (opened_of (parts w h b t)) o (sym ready.checked.is) ready.checked.full ready.outbound)
 
-module _ (w h b : List ℕ) (t : Float) (l : List ℕ) (o : Bytes) (ready : Rejecting (parts w h b t) (length l) (length o)) where
+module _ (w h b : List ℕ) (t : Float) (l : List ℕ) (o : Bytes) (ready : Ready (parts w h b t) (length l) (length o)) where
   abbrev k : Checked (opened_of (parts w h b t)) true
   k = ready.checked
 

@@ -17,8 +17,7 @@ use Rattle.rules.specs.Answers.{flag_value}
 use Rattle.rules.specs.Setup.{is_none}
 use Rattle.rules.specs.Receiving.{mode_of}
 use Rattle.peer_session.specs.declared.Stage.{Stage}
-use Rattle.peer_session.specs.declared.SessionState.{SessionState}
-use Rattle.peer_session.specs.Sound.{Full, Checked}
+use Rattle.peer_session.specs.Sound.{Full}
 use Rattle.setup.specs.Steps.{staged}
 use Rattle.parts.specs.declared.StageCodes.{StageCodes}
 use Rattle.parts.specs.Codes.{good_codes, good_stage, plain_terms, stage_of}
@@ -199,10 +198,6 @@ module _ (w h b : List ℕ) (t : Float) (full : Full (opened_of (parts w h b t))
   pub long-bytes : 4936 ≤ length b
   unfolding opened_of
   long-bytes = omega (arith, simp (length-take, length-drop) at full.reject)
-
--- what a test of soundness found, by its answer
-pub found-sound : {s : SessionState} {r : Bool} → Checked s r → r ≡ true → Checked s true
-found-sound k e = record { is = sym e ∙ k.is; full = k.full }
 
 -- a test has one answer
 pub never : {A : Type 0} {x : Bool} → x ≡ true → x ≡ false → A

@@ -5,7 +5,7 @@ use Rattle.rules.specs.declared.Terms.{Terms}
 use Rattle.rules.specs.Lists.{Bytes}
 use Rattle.rules.specs.Answers.{flag_value}
 use Rattle.rules.specs.Setup.{is_none}
-use Rattle.rules.specs.Calls.{accepts, rejects}
+use Rattle.rules.specs.Calls.{accepts}
 use Rattle.peer_session.specs.Sound.{Checked}
 use Rattle.session.specs.declared.Returned.{Returned}
 use Rattle.session.specs.Promise.{lent, Called, Turned}
@@ -35,22 +35,3 @@ AcceptFound p terms n (Err x) = NotAccepting p terms n x
 
 abbrev pub AcceptEnters : Terms → List ℕ → List ℕ → List ℕ → ℕ → Result (Unit {0}) Refusal → Type 0
 AcceptEnters terms w h b n r = (t : Float) → AcceptFound (parts w h b t) terms n r
-
--- ---- reject: the same, for a list of n words and an outbound store of m bytes
-
-pub record Rejecting (p : Parts) (n m : ℕ) : Type 0 where
-  pub checked : Checked (opened_of p) true
-  pub list : 4096 ≤ n
-  pub outbound : 65536 ≤ m
-  pub low : (opened_of p).clock.generation < 4294966000
-
-pub record NotRejecting (p : Parts) (n m : ℕ) (x : Refusal) : Type 0 where
-  pub call : (l : List ℕ) (o d q : Bytes) → length l ≡ n → length o ≡ m → 32768 ≤ length q → (r : Returned) → Turned (opened_of p) x r
-      → Called rejects (opened_of p) (lent l d o q) r (lent l d o q)
-
-abbrev pub RejectFound : Parts → ℕ → ℕ → Result (Unit {0}) Refusal → Type 0
-RejectFound p n m (Ok tt) = Rejecting p n m
-RejectFound p n m (Err x) = NotRejecting p n m x
-
-abbrev pub RejectEnters : List ℕ → List ℕ → List ℕ → ℕ → ℕ → Result (Unit {0}) Refusal → Type 0
-RejectEnters w h b n m r = (t : Float) → RejectFound (parts w h b t) n m r

@@ -6,7 +6,8 @@ ghost use Rattle.rules.specs.Calls.{accepts, rejects, prepares_channel};
 ghost use Rattle.session.specs.Promise.{CalledWithOutbound, CalledWithOutboundAlone, CalledAlone};
 ghost use Rattle.parts.specs.Parts.{parts};
 ghost use Rattle.parts.specs.Driven.{Driven};
-ghost use Rattle.link_setup.specs.Steps.{Stages, Accepting, AcceptEnters, Rejecting, RejectEnters};
+ghost use Rattle.link_sending.specs.Sends.{Ready};
+ghost use Rattle.link_setup.specs.Steps.{Stages, Accepting, AcceptEnters};
 
 use parts::{Bytes, Halves, LinkAnswer, SetupCode, Words};
 use peer_session::SessionState;
@@ -56,7 +57,7 @@ pub fn prepare_channel(
 
 // ---- accept
 
-// The tests of an accept, in their order.
+// The tests of an accept, in their order. They aren't a send's: an accept takes no list to test.
 fn accept_enters(
     words: &Words,
     halves: &Halves,
@@ -163,31 +164,6 @@ pub fn accept(
 
 // ---- reject
 
-// The tests of a reject, in their order.
-fn reject_enters(
-    words: &Words,
-    halves: &Halves,
-    bytes: &Bytes,
-    list: usize,
-    outbound: usize,
-) -> Result<(), Refusal>
-    ensures { RejectEnters words.now halves.now bytes.now list outbound result }
-{
-    if list < SessionState::EVENT_WORDS {
-        return Err(Refusal::ShortBuffer);
-    }
-    if outbound < SessionState::OUTBOUND_BYTES {
-        return Err(Refusal::ShortBuffer);
-    }
-    if !link_sound::sound(words, halves, bytes) {
-        return Err(Refusal::BadRecord);
-    }
-    if SessionState::GENERATION_LIMIT <= halves[parts::GENERATION] {
-        return Err(Refusal::GenerationsExhausted);
-    }
-    Ok(())
-}
-
 // The session's reject body is sent.
 fn send_reject(
     words: &mut Words,
@@ -197,7 +173,7 @@ fn send_reject(
     list: &mut [u64],
     outbound: &mut [u8],
 ) -> LinkAnswer
-    requires { Rejecting (parts words.old halves.old bytes.old clock.now) (length list.old) (length outbound.old) }
+    requires { Ready (parts words.old halves.old bytes.old clock.now) (length list.old) (length outbound.old) }
     ensures { Driven (parts words.old halves.old bytes.old clock.now) (parts words.new halves.new bytes.new clock.now) result (λ s y. CalledWithOutbound rejects s list.old outbound.old y list.new outbound.new) }
 {
     let generation = halves[parts::GENERATION];
@@ -227,7 +203,7 @@ pub fn reject(
 ) -> LinkAnswer
     ensures { Driven (parts words.old halves.old bytes.old clock.now) (parts words.new halves.new bytes.new clock.now) result (λ s y. CalledWithOutbound rejects s list.old outbound.old y list.new outbound.new) }
 {
-    match reject_enters(words, halves, bytes, list.len(), outbound.len()) {
+    match link_sending::enters(words, halves, bytes, list.len(), outbound.len()) {
         Ok(()) => send_reject(words, halves, bytes, clock, list, outbound),
         Err(x) => link_codes::refusal(x),
     }

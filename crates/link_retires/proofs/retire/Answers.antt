@@ -1,5 +1,5 @@
 use mathlib.Core.Path.{sym, ◌∙◌}
-use Rattle.link_setup.proofs.Stages.{found-sound}
+use Rattle.link_sending.proofs.Sends.{found-sound}
 use Rattle.link_retires.proofs.Retires.{short-outbound, short-queue, unsound, keeps, left-exact, forgets}
 use Rattle.link_retires.proofs.retire.Goals as goal
 

@@ -1,6 +1,6 @@
 use mathlib.Core.Path.{sym, ◌∙◌}
 use Rattle.parts.specs.Parts.{opened_of}
-use Rattle.link_sending.proofs.Sends.{short-list, short-outbound, unsound, spent}
+use Rattle.link_sending.proofs.Sends.{short-list, short-outbound, unsound, found-sound, spent}
 use Rattle.link_sending.proofs.enters.Goals as goal
 
 pub returns-then-list-lt-EVENT_WORDS : goal.returns-then-list-lt-EVENT_WORDS
@@ -14,8 +14,8 @@ returns-then-not-sound c = λ t. unsound _ c.if-list-lt-EVENT_WORDS.false c.if-o
 
 pub returns-then-halves-ge-GENERATION_LIMIT : goal.returns-then-halves-ge-GENERATION_LIMIT
 unfolding opened_of
-returns-then-halves-ge-GENERATION_LIMIT c = λ t. spent _ c.if-list-lt-EVENT_WORDS.false c.if-outbound-lt-OUTBOUND_BYTES.false (sym (c.sound.ensures t).is ∙ c.if-not-sound.false) (c.sound.ensures t).full c.if-halves-ge-GENERATION_LIMIT.true
+returns-then-halves-ge-GENERATION_LIMIT c = λ t. spent _ c.if-list-lt-EVENT_WORDS.false c.if-outbound-lt-OUTBOUND_BYTES.false (found-sound (c.sound.ensures t) c.if-not-sound.false) c.if-halves-ge-GENERATION_LIMIT.true
 
 pub returns : goal.returns
 unfolding opened_of
-returns c = λ t. record { sound = sym (c.sound.ensures t).is ∙ c.if-not-sound.false; full = (c.sound.ensures t).full; list = c.if-list-lt-EVENT_WORDS.false; outbound = c.if-outbound-lt-OUTBOUND_BYTES.false; low = c.if-halves-ge-GENERATION_LIMIT.false }
+returns c = λ t. record { checked = found-sound (c.sound.ensures t) c.if-not-sound.false; list = c.if-list-lt-EVENT_WORDS.false; outbound = c.if-outbound-lt-OUTBOUND_BYTES.false; low = c.if-halves-ge-GENERATION_LIMIT.false }

@@ -1,6 +1,7 @@
 use mathlib.Core.Path.{sym, ◌∙◌}
 use borrow.Author.Tests.{not-true, not-false}
-use Rattle.link_setup.proofs.Stages.{found-sound, never}
+use Rattle.link_sending.proofs.Sends.{found-sound}
+use Rattle.link_setup.proofs.Stages.{never}
 use Rattle.link_setup.proofs.Accepts.{short-outbound, unsound, at_limit, set_up, not_first, may_accept}
 use Rattle.link_setup.proofs.accept_enters.Goals as goal
 
