@@ -11,13 +11,10 @@ use lib.Seq.{get_or-set_same, get_or-set_other, take-take, take_at, drop-set-lt}
 use borrow.Author.Tests.{eq-eqb, ne_eqb}
 use Rattle.rules.specs.Lists.{Bytes, same}
 use Rattle.rules.specs.Answers.{flag_value}
-use Rattle.rules.specs.Start.{handoff_size}
 use Rattle.stores.specs.Placed.{placed}
 use Rattle.stores.proofs.Laws.{length-placed, drop-placed}
 use Rattle.peer_session.specs.View.{handoff_of, handoff_length}
-use Rattle.restores.specs.declared.Handoff.{Handoff}
-use Rattle.restores.specs.Restored.{given_in, handoff_given}
-use Rattle.restores.specs.Steps.{held_in}
+use Rattle.rules.specs.State as R
 use Rattle.parts.specs.Parts.{at, flag, section, handoff_in}
 use Rattle.parts.proofs.Fields.{length-section}
 use Rattle.link_starts.specs.Filled.{Filled}
@@ -53,15 +50,15 @@ within_four w b e h = by (flag (at b 775)) e h
 
 -- ---- the handoff is written
 
-module _ (given : Handoff) (body : Bytes) (w b : List ℕ) (lw : length w ≡ 1296) (lb : length b ≡ 4936) where
-  pub hands_none : given.present ≡ false → HandedIn given body w b w (set b 775 0)
-  hands_none e =
+module _ (w b : List ℕ) (lw : length w ≡ 1296) (lb : length b ≡ 4936) where
+  pub hands_none : HandedIn none w b w (set b 775 0)
+  hands_none =
       let z : at (set b 775 0) 775 ≡ 0 = get_or-set_same b 775 0 0 (omega arith) in
       let p : flag (at (set b 775 0) 775) ≡ false = flag_gone (at (set b 775 0) 775) z in
       record {
         handed =
             record {
-              is = absent (held_in (handoff_in w (set b 775 0))) (given_in given body) (flag (at (set b 775 0) 775)) given.present p e;
+              is = rw p refl;
               full = length-section 776 4096 (set b 775 0) (omega (arith, length-set b 775 0));
               size = small (at w 7) (flag (at (set b 775 0) 775)) p;
             };
@@ -77,12 +74,9 @@ module _ (given : Handoff) (body : Bytes) (w b : List ℕ) (lw : length w ≡ 12
       small : (n : ℕ) (t : Bool) → t ≡ false → (if t then n else 0) ≤ 4096
       small n t e = rw e (omega arith)
 
-      absent : {A : Type 0} (y z : A) (t u : Bool) → t ≡ false → u ≡ false → (if t then some y else none) ≡ (if u then some z else none)
-      absent y z t u e f = rw (e, f)
-
-  module _ (present : given.present ≡ true) (few : handoff_size (handoff_given given body) ≤ 4096) where
-    pub short-body : length body ≤ 4096
-    short-body = rw present at few
+  module _ (given : R.Handoff) (short-body : length given.body ≤ 4096) where
+    abbrev body : Bytes
+    body = given.body
 
     abbrev w' : List ℕ
     w' = set (set (set w 7 (length body)) 8 given.id) 9 given.number
@@ -117,7 +111,7 @@ module _ (given : Handoff) (body : Bytes) (w b : List ℕ) (lw : length w ≡ 12
           held-body (length body) b' short-body ∙ ap (take (length body)) (dropped ∙ drop-placed b 776 body room)
           ∙ take_at body (drop (776 + length body) b) (length body) refl
 
-      is : handoff_of (handoff_in w' b') ≡ handoff_given given body
+      is : handoff_of (handoff_in w' b') ≡ some given
       is =
           let n : at w' 7 ≡ length body = words.filled 0 (omega arith) in
           let i : at w' 8 ≡ given.id = words.filled 1 (omega arith) in
@@ -125,9 +119,9 @@ module _ (given : Handoff) (body : Bytes) (w b : List ℕ) (lw : length w ≡ 12
           let fs : flag (at b' 773) ≡ given.sent = ap flag (flags.filled 0 (omega arith) ∙ es) ∙ flag_read given.sent in
           let fa : flag (at b' 774) ≡ given.acknowledged = ap flag (flags.filled 1 (omega arith) ∙ ea) ∙ flag_read given.acknowledged in
           let fp : flag (at b' 775) ≡ true = ap flag (flags.filled 2 (omega arith)) in
-          rw (n, i, m, fs, fa, fp, present, copied)
+          rw (n, i, m, fs, fa, fp, copied) refl
 
-      hands_given : HandedIn given body w b w' b'
+      hands_given : HandedIn (some given) w b w' b'
       hands_given =
           let size : length b' ≡ length b = flags.size ∙ long in
           record {
@@ -150,5 +144,5 @@ module _ (given : Handoff) (body : Bytes) (w b : List ℕ) (lw : length w ≡ 12
           held true n e = omega (arith, e, short-body)
           held false n e = omega arith
 
-      pub hands_at : (l : List ℕ) → l ≡ placed b 776 body → HandedIn given body w b w' (set (set (set l 773 s) 774 a) 775 1)
-      hands_at l e = subst (λ (k : List ℕ). HandedIn given body w b w' (set (set (set k 773 s) 774 a) 775 1)) (sym e) hands_given
+      pub hands_at : (l : List ℕ) → l ≡ placed b 776 body → HandedIn (some given) w b w' (set (set (set l 773 s) 774 a) 775 1)
+      hands_at l e = subst (λ (k : List ℕ). HandedIn (some given) w b w' (set (set (set k 773 s) 774 a) 775 1)) (sym e) hands_given

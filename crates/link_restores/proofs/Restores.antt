@@ -11,6 +11,8 @@ use lib.ListN.{length, take, length-take, length-drop}
 use Rattle.rules.specs.declared.Answer.TheVariants.{Done, Refused}
 use Rattle.rules.specs.declared.Refusal.{Refusal}
 use Rattle.rules.specs.declared.Refusal.TheVariants.{ShortBuffer, UnknownCode, BadRecord, HandoffTooLong, RestoreTooLate, OtherHandoff}
+use Rattle.std.proofs.Math.Option.{Option}
+use Rattle.rules.specs.State as Book
 use Rattle.rules.specs.Lists.{Bytes, total, itself}
 use Rattle.rules.specs.Start.{good_record, handoff_size, agrees}
 use Rattle.outbox.specs.declared.Outbox.{Outbox}
@@ -24,8 +26,7 @@ use Rattle.session.specs.declared.Returned.{Returned}
 use Rattle.starts.specs.declared.Reliable.{Reliable}
 use Rattle.starts.specs.Started.{short_record}
 use Rattle.starts.specs.Records.{reliable_of}
-use Rattle.restores.specs.declared.Handoff.{Handoff}
-use Rattle.restores.specs.Restored.{handoff_given, Restored}
+use Rattle.restores.specs.Restored.{RestoredBy}
 use Rattle.restores.specs.Steps.{Taking, Takes, Ends}
 use Rattle.restores.proofs.Records as Plain
 use Rattle.restores.proofs.Handoffs.{with_handoff, ends-other, ends-handed}
@@ -46,47 +47,47 @@ use Rattle.link_restores.specs.Restores.{Ready, Turns, Found, Enters}
 
 -- ---- the tests
 
-module _ (x : Reliable) (ns ks : List ℕ) (bodies : Bytes) (given : Handoff) (body : Bytes) (p : Parts) {n : ℕ} where
-  pub short-outbound : n < 65536 → Turns x ns ks bodies given body p n ShortBuffer
-  short-outbound h = record { call = λ o e r t. R.store-short x ns ks bodies given body (opened_of p) o t (omega (arith, e)) }
+module _ (x : Reliable) (ns ks : List ℕ) (bodies : Bytes) (given : Option Book.Handoff) (p : Parts) {n : ℕ} where
+  pub short-outbound : n < 65536 → Turns x ns ks bodies given p n ShortBuffer
+  short-outbound h = record { call = λ o e r t. R.store-short x ns ks bodies given (opened_of p) o t (omega (arith, e)) }
 
-  pub short-messages : short_record ns ks bodies ≡ true → Turns x ns ks bodies given body p n ShortBuffer
-  short-messages h = record { call = λ o e r t. R.record_short x ns ks bodies given body (opened_of p) o t h }
+  pub short-messages : short_record ns ks bodies ≡ true → Turns x ns ks bodies given p n ShortBuffer
+  short-messages h = record { call = λ o e r t. R.record_short x ns ks bodies given (opened_of p) o t h }
 
   module _ (lo : 65536 ≤ n) (long : short_record ns ks bodies ≡ false) where
-    pub bad_code : 4 < x.disposition → Turns x ns ks bodies given body p n UnknownCode
-    bad_code h = record { call = λ o e r t. R.code_wrong x ns ks bodies given body (opened_of p) o (omega (arith, e)) long t h }
+    pub bad_code : 4 < x.disposition → Turns x ns ks bodies given p n UnknownCode
+    bad_code h = record { call = λ o e r t. R.code_wrong x ns ks bodies given (opened_of p) o (omega (arith, e)) long t h }
 
     module _ (known : x.disposition ≤ 4) where
-      pub unsound : sound_of (opened_of p) ≡ false → Turns x ns ks bodies given body p n BadRecord
-      unsound h = record { call = λ o e r t. R.session_bad x ns ks bodies given body (opened_of p) o (omega (arith, e)) long known t h }
+      pub unsound : sound_of (opened_of p) ≡ false → Turns x ns ks bodies given p n BadRecord
+      unsound h = record { call = λ o e r t. R.session_bad x ns ks bodies given (opened_of p) o (omega (arith, e)) long known t h }
 
       module _ (sound : sound_of (opened_of p) ≡ true) (full : Full (opened_of p)) where
-        pub bad_record : good_record (reliable_of x ns ks bodies) ≡ false → Turns x ns ks bodies given body p n BadRecord
-        bad_record h = record { call = λ o e r t. R.record_bad x ns ks bodies given body (opened_of p) o (omega (arith, e)) long known sound full t h }
+        pub bad_record : good_record (reliable_of x ns ks bodies) ≡ false → Turns x ns ks bodies given p n BadRecord
+        bad_record h = record { call = λ o e r t. R.record_bad x ns ks bodies given (opened_of p) o (omega (arith, e)) long known sound full t h }
 
         module _ (good : good_record (reliable_of x ns ks bodies) ≡ true) where
-          pub long-handoff : 4096 < handoff_size (handoff_given given body) → Turns x ns ks bodies given body p n HandoffTooLong
-          long-handoff h = record { call = λ o e r t. R.handoff-long x ns ks bodies given body (opened_of p) o (omega (arith, e)) long known sound full good t h }
+          pub long-handoff : 4096 < handoff_size given → Turns x ns ks bodies given p n HandoffTooLong
+          long-handoff h = record { call = λ o e r t. R.handoff-long x ns ks bodies given (opened_of p) o (omega (arith, e)) long known sound full good t h }
 
-          pub late : handoff_size (handoff_given given body) ≤ 4096
+          pub late : handoff_size given ≤ 4096
               → true ≡ not (eqb (opened_of p).clock.generation 0 && eqb (opened_of p).queue.count 0 && eqb (opened_of p).waiting.count 0)
-              → Turns x ns ks bodies given body p n RestoreTooLate
-          late small h = record { call = λ o e r t. R.restored_late x ns ks bodies given body (opened_of p) o (omega (arith, e)) long known sound full good small t h }
+              → Turns x ns ks bodies given p n RestoreTooLate
+          late small h = record { call = λ o e r t. R.restored_late x ns ks bodies given (opened_of p) o (omega (arith, e)) long known sound full good small t h }
 
 -- a refusal by them
-pub turned : (x : Reliable) (ns ks : List ℕ) (bodies : Bytes) (given : Handoff) (body : Bytes) (p : Parts) (o : Bytes) (z : Refusal) → Turns x ns ks bodies given body p (length o) z
-    → {y : LinkAnswer} → y ≡ answer_of (Refused z) 0 → Driven p p y (λ s r. Restored x ns ks bodies given body s o r o)
-turned x ns ks bodies given body p o z k e = refuses p z e (λ r u. k.call o refl r u)
+pub turned : (x : Reliable) (ns ks : List ℕ) (bodies : Bytes) (given : Option Book.Handoff) (p : Parts) (o : Bytes) (z : Refusal) → Turns x ns ks bodies given p (length o) z
+    → {y : LinkAnswer} → y ≡ answer_of (Refused z) 0 → Driven p p y (λ s r. RestoredBy x ns ks bodies given s o r o)
+turned x ns ks bodies given p o z k e = refuses p z e (λ r u. k.call o refl r u)
 
 -- what the tests found, by their stop
-module _ (x : Reliable) (ns ks : List ℕ) (bodies : Bytes) (given : Handoff) (body : Bytes) (w h b : List ℕ) (t : Float) {n : ℕ} {stop : Result (Unit {0}) Refusal}
-    (f : Enters x ns ks bodies given body w h b n stop) where
-  pub passed : stop ≡ Ok tt → Ready x ns ks bodies given body (parts w h b t) n
-  passed e = subst (λ (s : Result (Unit {0}) Refusal). Found x ns ks bodies given body (parts w h b t) n s) e (f t)
+module _ (x : Reliable) (ns ks : List ℕ) (bodies : Bytes) (given : Option Book.Handoff) (w h b : List ℕ) (t : Float) {n : ℕ} {stop : Result (Unit {0}) Refusal}
+    (f : Enters x ns ks bodies given w h b n stop) where
+  pub passed : stop ≡ Ok tt → Ready x ns ks bodies given (parts w h b t) n
+  passed e = subst (λ (s : Result (Unit {0}) Refusal). Found x ns ks bodies given (parts w h b t) n s) e (f t)
 
-  pub away : (z : Refusal) → stop ≡ Err z → Turns x ns ks bodies given body (parts w h b t) n z
-  away z e = subst (λ (s : Result (Unit {0}) Refusal). Found x ns ks bodies given body (parts w h b t) n s) e (f t)
+  pub away : (z : Refusal) → stop ≡ Err z → Turns x ns ks bodies given (parts w h b t) n z
+  away z e = subst (λ (s : Result (Unit {0}) Refusal). Found x ns ks bodies given (parts w h b t) n s) e (f t)
 
 -- ---- the stage with another disposition
 
@@ -138,8 +139,8 @@ between_high c d h g k = record { same = λ i hi hj. k.above i (omega arith) ∙
 same_between : (from to : ℕ) (l : List ℕ) → Between from to l l
 same_between from to l = record { size = refl; below = λ i k. refl; above = λ i k. refl }
 
-module _ (x : Reliable) (ns ks : List ℕ) (bodies : Bytes) (given : Handoff) (body : Bytes) (w h b : List ℕ) (t : Float) (o : Bytes)
-    (ready : Ready x ns ks bodies given body (parts w h b t) (length o)) where
+module _ (x : Reliable) (ns ks : List ℕ) (bodies : Bytes) (given : Option Book.Handoff) (w h b : List ℕ) (t : Float) (o : Bytes)
+    (ready : Ready x ns ks bodies given (parts w h b t) (length o)) where
   abbrev s : SessionState
   s = opened_of (parts w h b t)
 
@@ -155,7 +156,7 @@ module _ (x : Reliable) (ns ks : List ℕ) (bodies : Bytes) (given : Handoff) (b
   codes = (usable w h b t (record { is = sym ready.sound; full = ready.full })).codes
 
   takes-session : Taking x ns ks bodies s (length o)
-  takes-session = R.taking x ns ks bodies given body s o ready.outbound ready.long ready.known ready.sound ready.full ready.good
+  takes-session = R.taking x ns ks bodies given s o ready.outbound ready.long ready.known ready.sound ready.full ready.good
 
   pub taking_in : TakingIn x ns ks bodies w h b (length o)
   unfolding opened_of
@@ -216,26 +217,26 @@ module _ (x : Reliable) (ns ks : List ℕ) (bodies : Bytes) (given : Handoff) (b
     takes =
         Plain.takes x ns ks bodies s o takes-session (outbox_in w' h' b') k.recorded (total itself (take (length ns) ks)) (end_u (outbox_in w h b)) refl refl o' k.stored
 
-    restored : {z : Returned} → Ends (handoff_given given body) (with_record x (outbox_in w' h' b') s) z → Restored x ns ks bodies given body s o z o'
-    restored f = R.restores_it x ns ks bodies given body s o ready.outbound ready.long ready.known ready.sound ready.full ready.good ready.small ready.soon takes f
+    restored : {z : Returned} → Ends given (with_record x (outbox_in w' h' b') s) z → RestoredBy x ns ks bodies given s o z o'
+    restored f = R.restores_it x ns ks bodies given s o ready.outbound ready.long ready.known ready.sound ready.full ready.good ready.small ready.soon takes f
 
-    agreed : {r : Bool} → agrees (handoff_of (handoff_in w' b')) (handoff_given given body) ≡ r → agrees (handoff_of s.handoff) (handoff_given given body) ≡ r
+    agreed : {r : Bool} → agrees (handoff_of (handoff_in w' b')) given ≡ r → agrees (handoff_of s.handoff) given ≡ r
     unfolding opened_of
-    agreed e = ap (λ (m : TerminalHandoff). agrees (handoff_of m) (handoff_given given body)) (sym handoff-stays) ∙ e
+    agreed e = ap (λ (m : TerminalHandoff). agrees (handoff_of m) given) (sym handoff-stays) ∙ e
 
     kept : opened_of (parts w' h' b' t) ≡ with_record x (outbox_in w' h' b') s
     unfolding opened_of
     kept = left (same_between 7 10 w') (same_between 773 4872 b') ∙ ap (λ (m : TerminalHandoff). with_handoff m (with_record x (outbox_in w' h' b') s)) handoff-stays
 
     -- 31
-    pub other-handoff : agrees (handoff_of (handoff_in w' b')) (handoff_given given body) ≡ false → {y : LinkAnswer} → y ≡ answer_of (Refused OtherHandoff) 0
-        → Driven (parts w h b t) (parts w' h' b' t) y (λ s r. Restored x ns ks bodies given body s o r o')
+    pub other-handoff : agrees (handoff_of (handoff_in w' b')) given ≡ false → {y : LinkAnswer} → y ≡ answer_of (Refused OtherHandoff) 0
+        → Driven (parts w h b t) (parts w' h' b' t) y (λ s r. RestoredBy x ns ks bodies given s o r o')
     other-handoff e f =
         changes (parts w h b t) ready.sound (parts w' h' b' t) (with_record x (outbox_in w' h' b') s) kept (Refused OtherHandoff) 0 f
-        (restored (ends-other (handoff_given given body) (with_record x (outbox_in w' h' b') s) (agreed e) (record { session = refl; answer = refl; events = refl })))
+        (restored (ends-other given (with_record x (outbox_in w' h' b') s) (agreed e) (record { session = refl; answer = refl; events = refl })))
 
-    pub goes_in : agrees (handoff_of (handoff_in w' b')) (handoff_given given body) ≡ true → {w'' b'' : List ℕ} → HandedIn given body w' b' w'' b''
-        → {y : LinkAnswer} → y ≡ answer_of Done 0 → Driven (parts w h b t) (parts w'' h' b'' t) y (λ s r. Restored x ns ks bodies given body s o r o')
+    pub goes_in : agrees (handoff_of (handoff_in w' b')) given ≡ true → {w'' b'' : List ℕ} → HandedIn given w' b' w'' b''
+        → {y : LinkAnswer} → y ≡ answer_of Done 0 → Driven (parts w h b t) (parts w'' h' b'' t) y (λ s r. RestoredBy x ns ks bodies given s o r o')
     goes_in e {w''} {b''} g f =
         changes (parts w h b t) ready.sound (parts w'' h' b'' t) (with_handoff (handoff_in w'' b'') (with_record x (outbox_in w' h' b') s)) (left g.words g.bytes) Done 0 f
-        (restored (ends-handed given body (with_record x (outbox_in w' h' b') s) (handoff_in w'' b'') (agreed e) g.handed))
+        (restored (ends-handed given (with_record x (outbox_in w' h' b') s) (handoff_in w'' b'') (agreed e) g.handed))

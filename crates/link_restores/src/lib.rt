@@ -5,7 +5,7 @@ ghost use Rattle.std.specs.Prelude.{◌≡◌, ◌≤◌, length};
 ghost use Rattle.rules.specs.Start.{handoff_size, same_handoff, agrees};
 ghost use Rattle.peer_session.specs.View.{handoff_of, handoff_length};
 ghost use Rattle.starts.specs.Records.{Fitting, Beginning, Begun};
-ghost use Rattle.restores.specs.Restored.{given_in, handoff_given, Restored};
+ghost use Rattle.restores.specs.Restored.{lent_handoff, given_if, RestoredBy};
 ghost use Rattle.restores.specs.Steps.{held_in};
 ghost use Rattle.parts.specs.Parts.{parts, at, handoff_in, opened_of};
 ghost use Rattle.parts.specs.Driven.{Driven};
@@ -15,16 +15,16 @@ ghost use Rattle.link_restores.specs.Restores.{Ready, Enters};
 
 use parts::{Bytes, Halves, LinkAnswer, Words};
 use peer_session::SessionState;
-use restores::Handoff;
+use restores::Given;
 use rules::{Disposition, Refusal};
 use starts::Record;
 
 // ---- the handoff
 
 // Whether the handoff that is there is the one given.
-fn same_handoff(words: &Words, bytes: &Bytes, given: Handoff, body: &[u8]) -> bool
+fn same_handoff(words: &Words, bytes: &Bytes, given: Given) -> bool
     requires { at words.now 7 ≤ 4096 }
-    ensures { result ≡ same_handoff (held_in (handoff_in words.now bytes.now)) (given_in given body.now) }
+    ensures { result ≡ same_handoff (held_in (handoff_in words.now bytes.now)) (lent_handoff given.entry) }
 {
     if words[parts::HANDOFF_ID] != given.id {
         return false;
@@ -37,7 +37,7 @@ fn same_handoff(words: &Words, bytes: &Bytes, given: Handoff, body: &[u8]) -> bo
         parts::HANDOFF_BODY,
         words[parts::HANDOFF_LEN] as usize,
     );
-    if !stores::same_bytes(held, body) {
+    if !stores::same_bytes(held, given.body) {
         return false;
     }
     if (bytes[parts::HANDOFF_SENT] != 0) != given.sent {
@@ -47,35 +47,35 @@ fn same_handoff(words: &Words, bytes: &Bytes, given: Handoff, body: &[u8]) -> bo
 }
 
 // Whether there is no handoff, or the same one.
-fn agrees(words: &Words, bytes: &Bytes, given: Handoff, body: &[u8]) -> bool
+fn agrees(words: &Words, bytes: &Bytes, given: Option<Given>) -> bool
     requires { handoff_length (handoff_in words.now bytes.now) ≤ 4096 }
-    ensures { result ≡ agrees (handoff_of (handoff_in words.now bytes.now)) (handoff_given given body.now) }
+    ensures { result ≡ agrees (handoff_of (handoff_in words.now bytes.now)) (given_if given.entry) }
 {
     if bytes[parts::HANDOFF_PRESENT] == 0 {
         return true;
     }
-    if !given.present {
-        return false;
+    match given {
+        Some(given) => same_handoff(words, bytes, given),
+        None => false,
     }
-    same_handoff(words, bytes, given, body)
 }
 
 // The handoff given, with a copy of its body.
-pub fn hand(words: &mut Words, bytes: &mut Bytes, given: Handoff, body: &[u8])
-    requires { handoff_size (handoff_given given body.now) ≤ 4096 }
-    ensures { HandedIn given body.now words.old bytes.old words.new bytes.new }
+pub fn hand(words: &mut Words, bytes: &mut Bytes, given: Option<Given>)
+    requires { handoff_size (given_if given) ≤ 4096 }
+    ensures { HandedIn (given_if given.entry) words.old bytes.old words.new bytes.new }
 {
-    if !given.present {
+    let Some(given) = given else {
         bytes[parts::HANDOFF_PRESENT] = 0;
         return;
-    }
+    };
     let sent = link_codes::flag_byte(given.sent);
     let acknowledged = link_codes::flag_byte(given.acknowledged);
-    stores::copy_in(bytes, parts::HANDOFF_BODY, body);
+    stores::copy_in(bytes, parts::HANDOFF_BODY, given.body);
     bytes[parts::HANDOFF_SENT] = sent;
     bytes[parts::HANDOFF_ACKNOWLEDGED] = acknowledged;
     bytes[parts::HANDOFF_PRESENT] = 1;
-    words[parts::HANDOFF_LEN] = body.len() as u64;
+    words[parts::HANDOFF_LEN] = given.body.len() as u64;
     words[parts::HANDOFF_ID] = given.id;
     words[parts::HANDOFF_NUMBER] = given.number;
 }
@@ -89,10 +89,9 @@ fn enters(
     bytes: &Bytes,
     outbound: usize,
     record: Record,
-    given: Handoff,
-    body: &[u8],
+    given: Option<Given>,
 ) -> Result<(), Refusal>
-    ensures { Enters «record».entry.reliable «record».entry.numbers.now «record».entry.lengths.now «record».entry.bodies.now given body.now words.now halves.now bytes.now outbound result }
+    ensures { Enters «record».entry.reliable «record».entry.numbers.now «record».entry.lengths.now «record».entry.bodies.now (given_if given.entry) words.now halves.now bytes.now outbound result }
 {
     if outbound < SessionState::OUTBOUND_BYTES {
         return Err(Refusal::ShortBuffer);
@@ -109,7 +108,7 @@ fn enters(
     if !starts::good_record(record) {
         return Err(Refusal::BadRecord);
     }
-    if SessionState::MAX_HANDOFF < peer_session::handoff_length(given.present, body.len()) {
+    if SessionState::MAX_HANDOFF < restores::size_of(given) {
         return Err(Refusal::HandoffTooLong);
     }
     let queued = words[parts::QUEUED] as usize;
@@ -128,17 +127,16 @@ fn goes(
     clock: &f64,
     outbound: &mut [u8],
     record: Record,
-    given: Handoff,
-    body: &[u8],
+    given: Option<Given>,
 ) -> LinkAnswer
-    requires { Ready «record».reliable «record».numbers.now «record».lengths.now «record».bodies.now given body.now (parts words.old halves.old bytes.old clock.now) (length outbound.old) }
-    ensures { Driven (parts words.old halves.old bytes.old clock.now) (parts words.new halves.new bytes.new clock.now) result (λ s y. Restored «record».entry.reliable «record».entry.numbers.now «record».entry.lengths.now «record».entry.bodies.now given body.now s outbound.old y outbound.new) }
+    requires { Ready «record».reliable «record».numbers.now «record».lengths.now «record».bodies.now (given_if given) (parts words.old halves.old bytes.old clock.now) (length outbound.old) }
+    ensures { Driven (parts words.old halves.old bytes.old clock.now) (parts words.new halves.new bytes.new clock.now) result (λ s y. RestoredBy «record».entry.reliable «record».entry.numbers.now «record».entry.lengths.now «record».entry.bodies.now (given_if given.entry) s outbound.old y outbound.new) }
 {
     link_starts::take(words, halves, bytes, outbound, record);
-    if !agrees(words, bytes, given, body) {
+    if !agrees(words, bytes, given) {
         return link_codes::refusal(Refusal::OtherHandoff);
     }
-    hand(words, bytes, given, body);
+    hand(words, bytes, given);
     link_codes::done(0)
 }
 
@@ -150,16 +148,13 @@ pub fn restore(
     clock: &f64,
     outbound: &mut [u8],
     record: Record,
-    given: Handoff,
-    body: &[u8],
+    given: Option<Given>,
 ) -> LinkAnswer
-    ensures { Driven (parts words.old halves.old bytes.old clock.now) (parts words.new halves.new bytes.new clock.now) result (λ s y. Restored «record».entry.reliable «record».entry.numbers.now «record».entry.lengths.now «record».entry.bodies.now given body.now s outbound.old y outbound.new) }
+    ensures { Driven (parts words.old halves.old bytes.old clock.now) (parts words.new halves.new bytes.new clock.now) result (λ s y. RestoredBy «record».entry.reliable «record».entry.numbers.now «record».entry.lengths.now «record».entry.bodies.now (given_if given.entry) s outbound.old y outbound.new) }
 {
-    let stop = enters(words, halves, bytes, outbound.len(), record, given, body);
+    let stop = enters(words, halves, bytes, outbound.len(), record, given);
     match stop {
         Err(x) => link_codes::refusal(x),
-        Ok(()) => goes(
-            words, halves, bytes, clock, outbound, record, given, body,
-        ),
+        Ok(()) => goes(words, halves, bytes, clock, outbound, record, given),
     }
 }

@@ -1,5 +1,4 @@
 -- The handoff of a restore, beside the one that there is. Assumes nothing.
-use Rattle.std.specs.Prelude.{if◌then◌else◌}
 use mathlib.Core.Path.{◌≡◌, refl, sym, ap, ◌∙◌}
 use mathlib.Core.Bool.{Bool, true, false, ◌&&◌, beq}
 use mathlib.Core.List.{[]}
@@ -15,7 +14,7 @@ use Rattle.rules.specs.Lists.{Bytes, same}
 use Rattle.rules.specs.State as R
 use Rattle.rules.specs.State.{handoff_is}
 use Rattle.rules.specs.Progress.{outcome}
-use Rattle.rules.specs.Start.{handoff_size, same_handoff, agrees, restore_terminal}
+use Rattle.rules.specs.Start.{same_handoff, agrees, restore_terminal}
 use Rattle.stores.specs.Placed.{placed}
 use Rattle.stores.proofs.Laws.{length-placed}
 use Rattle.peer_session.specs.declared.TerminalHandoff.{TerminalHandoff}
@@ -25,8 +24,6 @@ use Rattle.peer_session.specs.New.{NoHandoff}
 use Rattle.session.specs.declared.Returned.{Returned}
 use Rattle.session.specs.Promise.{Turned}
 use Rattle.setup.proofs.Steps.{turned_is}
-use Rattle.restores.specs.declared.Handoff.{Handoff}
-use Rattle.restores.specs.Restored.{given_in, handoff_given}
 use Rattle.restores.specs.Steps.{held_in, Handed, Ends}
 
 -- ---- whether two are the same, test by test
@@ -63,45 +60,38 @@ module _ (h k : R.Handoff) where
 
 -- ---- whether they agree
 
-module _ (h : TerminalHandoff) (given : Handoff) (b : Bytes) where
-  pub none-there : h.present ≡ false → true ≡ agrees (handoff_of h) (handoff_given given b)
+module _ (h : TerminalHandoff) (g : Option R.Handoff) where
+  pub none-there : h.present ≡ false → true ≡ agrees (handoff_of h) g
   none-there e = rw e
 
-  module _ (there : h.present ≡ true) where
-    pub none-given : given.present ≡ false → false ≡ agrees (handoff_of h) (handoff_given given b)
-    none-given e = rw (there, e)
+module _ (h : TerminalHandoff) (there : h.present ≡ true) where
+  pub none-given : false ≡ agrees (handoff_of h) none
+  none-given = rw there
 
-    pub both : {r : Bool} → given.present ≡ true → r ≡ same_handoff (held_in h) (given_in given b) → r ≡ agrees (handoff_of h) (handoff_given given b)
-    both e f = rw (there, e) f
+  pub both : {r : Bool} (k : R.Handoff) → r ≡ same_handoff (held_in h) k → r ≡ agrees (handoff_of h) (some k)
+  both k f = rw there f
 
-    -- one that is there lies within its array
-    pub within : handoff_length h ≤ length h.body → h.len ≤ length h.body
-    within e = rw there at e
+  -- one that is there lies within its array
+  pub within : handoff_length h ≤ length h.body → h.len ≤ length h.body
+  within e = rw there at e
 
 -- ---- the one given
 
-module _ (given : Handoff) (b : Bytes) where
-  pub handed-none : {r : TerminalHandoff} → given.present ≡ false → NoHandoff r → Handed given b r
-  handed-none e n = record { is = rw (n.absent, e) refl; full = n.full; size = rw n.absent (omega arith) }
+pub handed-none : {r : TerminalHandoff} → NoHandoff r → Handed none r
+handed-none n = record { is = rw n.absent refl; full = n.full; size = rw n.absent (omega arith) }
 
-  module _ (present : given.present ≡ true) (small : handoff_size (handoff_given given b) ≤ 4096) where
-    pub short : length b ≤ 4096
-    short = rw present at small
-
-    pub handed-is : (x : Bytes) → x ≡ placed (replicate 4096 0) 0 b
-        → Handed given b (record { body = x; len = length b; id = given.id; number = given.number; sent = given.sent; acknowledged = given.acknowledged; present = true })
-    unfolding placed
-    handed-is x e =
-        let z : Bytes = replicate 4096 0 in
-        let lz : length z ≡ 4096 = length-replicate {A = ℕ} 4096 0 in
-        let front : take (length b) x ≡ b = ap (take (length b)) e ∙ take_at b (drop (0 + length b) z) (length b) refl in
-        record {
-          is =
-              ap (λ (y : Bytes). some (record { id = given.id; number = given.number; body = y; sent = given.sent; acknowledged = given.acknowledged })) front
-              ∙ ap (λ (t : Bool). if t then some (given_in given b) else none) (sym present);
-          full = ap length e ∙ length-placed z 0 b (omega (arith, short)) ∙ lz;
-          size = short;
-        }
+pub handed-is : (k : R.Handoff) → length k.body ≤ 4096 → (x : Bytes) → x ≡ placed (replicate 4096 0) 0 k.body
+    → Handed (some k) (record { body = x; len = length k.body; id = k.id; number = k.number; sent = k.sent; acknowledged = k.acknowledged; present = true })
+unfolding placed
+handed-is k small x e =
+    let z : Bytes = replicate 4096 0 in
+    let lz : length z ≡ 4096 = length-replicate {A = ℕ} 4096 0 in
+    let front : take (length k.body) x ≡ k.body = ap (take (length k.body)) e ∙ take_at k.body (drop (0 + length k.body) z) (length k.body) refl in
+    record {
+      is = ap (λ (y : Bytes). some (record { id = k.id; number = k.number; body = y; sent = k.sent; acknowledged = k.acknowledged })) front;
+      full = ap length e ∙ length-placed z 0 k.body (omega (arith, small)) ∙ lz;
+      size = small;
+    }
 
 -- ---- the step
 
@@ -127,10 +117,10 @@ with_handoff h s =
       reject = s.reject;
     }
 
-pub ends-handed : (given : Handoff) (b : Bytes) (s : SessionState) (h : TerminalHandoff) → agrees (handoff_of s.handoff) (handoff_given given b) ≡ true → Handed given b h
-    → Ends (handoff_given given b) s (record { session = with_handoff h s; answer = Done; events = 0 })
+pub ends-handed : (g : Option R.Handoff) (s : SessionState) (h : TerminalHandoff) → agrees (handoff_of s.handoff) g ≡ true → Handed g h
+    → Ends g s (record { session = with_handoff h s; answer = Done; events = 0 })
 unfolding restore_terminal
-ends-handed given b s h e w =
+ends-handed g s h e w =
     record {
       does = λ o q. rw e (ap (λ (g : Option R.Handoff). outcome (handoff_is g (state_of s o q)) Done []) (sym w.is));
       exact = λ m n x.

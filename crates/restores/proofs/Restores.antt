@@ -3,7 +3,7 @@ use Rattle.std.specs.Prelude.{if◌then◌else◌}
 use mathlib.Core.Path.{◌≡◌, refl, sym, ap, ◌∙◌}
 use mathlib.Core.Bool.{Bool, true, false, not, ◌&&◌}
 use mathlib.Core.List.{List, [], ◌∷◌}
-use mathlib.Core.Option.{Option, none, some}
+use mathlib.Core.Option.{Option}
 use Prim.Native.Nat.{ℕ, ◌≤◌, ◌<◌}
 use native.Mathlib.Omega.{arith}
 use lib.ListN.{length, replicate, length-replicate}
@@ -41,8 +41,7 @@ use Rattle.starts.specs.Started.{short_record}
 use Rattle.starts.specs.Records.{reliable_of}
 use Rattle.starts.proofs.Messages.{Long, long_record}
 use Rattle.starts.proofs.Checks.{good-fitting}
-use Rattle.restores.specs.declared.Handoff.{Handoff}
-use Rattle.restores.specs.Restored.{given_in, handoff_given, restore_promise, Restored}
+use Rattle.restores.specs.Restored.{restore_promise, RestoredBy}
 use Rattle.restores.specs.Steps.{Taking, Takes, Ends}
 
 -- ---- refusal 28
@@ -102,29 +101,11 @@ module _ (r : Reliable) (h : Option R.Handoff) where
             on : (a b : Bool) → a ≡ b → (t refuses RestoreTooLate when a else restoring r h t) ≡ (if b then outcome t (Refused RestoreTooLate) [] else restoring r h t)
             on a b e = ap (λ (a : Bool). t refuses RestoreTooLate when a else restoring r h t) e ∙ by b
 
--- the size that counts
-size_is : (given : Handoff) (b : Bytes) → (if given.present then length b else 0) ≡ handoff_size (handoff_given given b)
-size_is given b = by given.present
-  where
-    by : (t : Bool) → (if t then length b else 0) ≡ handoff_size (if t then some (given_in given b) else none)
-    by true = refl
-    by false = refl
-
-module _ (given : Handoff) (b : Bytes) {n : ℕ} (e : n ≡ (if given.present then length b else 0)) where
-  pub size-long : 4096 < n → 4096 < handoff_size (handoff_given given b)
-  size-long h = let k : n ≡ handoff_size (handoff_given given b) = e ∙ size_is given b in omega arith
-
-  pub size_small : n ≤ 4096 → handoff_size (handoff_given given b) ≤ 4096
-  size_small h = let k : n ≡ handoff_size (handoff_given given b) = e ∙ size_is given b in omega arith
-
 -- ---- the promise
 
-module _ (x : Starts.Reliable) (ns ks : List ℕ) (b : Bytes) (given : Handoff) (body : Bytes) (s : SessionState) (o : Bytes) where
+module _ (x : Starts.Reliable) (ns ks : List ℕ) (b : Bytes) (h : Option R.Handoff) (s : SessionState) (o : Bytes) where
   abbrev r : Reliable
   r = reliable_of x ns ks b
-
-  abbrev h : Option R.Handoff
-  h = handoff_given given body
 
   abbrev call : Call
   call = restores r h
@@ -137,7 +118,7 @@ module _ (x : Starts.Reliable) (ns ks : List ℕ) (b : Bytes) (given : Handoff) 
   promise_record l e = rw e
 
   -- 1: the store, and the record
-  pub store-short : {y : Returned} → Turned s ShortBuffer y → length o < 65536 → Restored x ns ks b given body s o y o
+  pub store-short : {y : Returned} → Turned s ShortBuffer y → length o < 65536 → RestoredBy x ns ks b h s o y o
   unfolding restore_promise taken_by
   store-short {y} t e l d q lq = by (short_record ns ks b)
     where
@@ -145,11 +126,11 @@ module _ (x : Starts.Reliable) (ns ks : List ℕ) (b : Bytes) (given : Handoff) 
       by true = leaves_all (lent l d o q) t
       by false = is-short call s (lent l d o q) t (short-outbound (taken_by call) (lent l d o q) refl e)
 
-  pub record_short : {y : Returned} → Turned s ShortBuffer y → short_record ns ks b ≡ true → Restored x ns ks b given body s o y o
+  pub record_short : {y : Returned} → Turned s ShortBuffer y → short_record ns ks b ≡ true → RestoredBy x ns ks b h s o y o
   record_short t e l d q lq = leaves_all (lent l d o q) t ∙ sym (promise_record (lent l d o q) e)
 
   module _ (lo : 65536 ≤ length o) (long : short_record ns ks b ≡ false) where
-    called : (y : Returned) {o' : Bytes} → ((l : List ℕ) (d q : Bytes) → 32768 ≤ length q → Called call s (lent l d o q) y (lent l d o' q)) → Restored x ns ks b given body s o y o'
+    called : (y : Returned) {o' : Bytes} → ((l : List ℕ) (d q : Bytes) → 32768 ≤ length q → Called call s (lent l d o q) y (lent l d o' q)) → RestoredBy x ns ks b h s o y o'
     unfolding restore_promise
     called y f l d q lq = f l d q lq ∙ sym (ap (λ (u : Bool). if u then unchanged ShortBuffer s (lent l d o q) else promise call s (lent l d o q)) long)
 
@@ -158,27 +139,27 @@ module _ (x : Starts.Reliable) (ns ks : List ℕ) (b : Bytes) (given : Handoff) 
     enough l d q = long-enough (taken_by call) (lent l d o q) not_taken not_taken (λ e. lo) not_taken
 
     -- 2
-    pub code_wrong : {y : Returned} → Turned s UnknownCode y → 4 < x.disposition → Restored x ns ks b given body s o y o
+    pub code_wrong : {y : Returned} → Turned s UnknownCode y → 4 < x.disposition → RestoredBy x ns ks b h s o y o
     unfolding wrong_code
     code_wrong {y} t e = called y (λ l d q lq. is_wrong call s (lent l d o q) (enough l d q) t (lt-ltb 4 x.disposition e))
 
     module _ (known : x.disposition ≤ 4) where
       -- 3, of the session
-      pub session_bad : {y : Returned} → Turned s BadRecord y → sound_of s ≡ false → Restored x ns ks b given body s o y o
+      pub session_bad : {y : Returned} → Turned s BadRecord y → sound_of s ≡ false → RestoredBy x ns ks b h s o y o
       session_bad {y} t e = called y (λ l d q lq. unsound (plain r h known) s l d o q not_taken (λ e. lo) not_taken t e)
 
       module _ (sound : sound_of s ≡ true) (full : Full s) where
         refuses_by : {y : Returned} {z : Refusal} → Turned s z y → ((q : Bytes) → 32768 ≤ length q → step call (state_of s o q) ≡ outcome (state_of s o q) (Refused z) [])
-            → Restored x ns ks b given body s o y o
+            → RestoredBy x ns ks b h s o y o
         refuses_by {y} t f = called y (λ l d q lq. refused (plain r h known) s l d o q not_taken (λ e. lo) not_taken sound full lo lq t (f q lq))
 
         -- 3, of the record
-        pub record_bad : {y : Returned} → Turned s BadRecord y → good_record r ≡ false → Restored x ns ks b given body s o y o
+        pub record_bad : {y : Returned} → Turned s BadRecord y → good_record r ≡ false → RestoredBy x ns ks b h s o y o
         record_bad t e = refuses_by t (λ q lq. rule_bad r h (state_of s o q) known e)
 
         module _ (good : good_record r ≡ true) where
           -- 10
-          pub handoff-long : {y : Returned} → Turned s HandoffTooLong y → 4096 < handoff_size h → Restored x ns ks b given body s o y o
+          pub handoff-long : {y : Returned} → Turned s HandoffTooLong y → 4096 < handoff_size h → RestoredBy x ns ks b h s o y o
           handoff-long t e = refuses_by t (λ q lq. rule_long r h (state_of s o q) known good e)
 
           module _ (small : handoff_size h ≤ 4096) where
@@ -187,12 +168,12 @@ module _ (x : Starts.Reliable) (ns ks : List ℕ) (b : Bytes) (given : Handoff) 
 
             -- 28
             pub restored_late : {y : Returned} → Turned s RestoreTooLate y → true ≡ not (eqb s.clock.generation 0 && eqb s.queue.count 0 && eqb s.waiting.count 0)
-                → Restored x ns ks b given body s o y o
+                → RestoredBy x ns ks b h s o y o
             restored_late t e = refuses_by t (λ q lq. by_late r h (state_of s o q) known good small (lateness e q lq))
 
             -- the record is taken, and the handoff or 31
             pub restores_it : {y : SessionState} {z : Returned} {o' : Bytes} → false ≡ not (eqb s.clock.generation 0 && eqb s.queue.count 0 && eqb s.waiting.count 0)
-                → Takes x ns ks b s o y o' → Ends h y z → Restored x ns ks b given body s o z o'
+                → Takes x ns ks b s o y o' → Ends h y z → RestoredBy x ns ks b h s o z o'
             restores_it {y} {z} {o'} e w f =
                 called z
                 (λ l d q lq.

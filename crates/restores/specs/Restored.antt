@@ -1,5 +1,6 @@
 -- What a restore promises: one equation with the rule book, for every session, buffer, record and handoff. Assumes nothing.
-use Rattle.std.specs.Prelude.{ℕ, ◌≤◌, ◌≡◌, Bool, List, length, if◌then◌else◌}
+use Rattle.std.specs.Prelude as Prelude
+use Rattle.std.specs.Prelude.{ℕ, ◌≤◌, ◌≡◌, Bool, List, length, if◌then◌else◌, Some, None}
 use Rattle.std.proofs.Math.Option.{Option, none, some}
 use Rattle.rules.specs.declared.Refusal.TheVariants.{ShortBuffer}
 use Rattle.rules.specs.Lists.{Bytes}
@@ -16,9 +17,19 @@ use Rattle.starts.specs.declared.Reliable as Starts
 use Rattle.starts.specs.Started.{short_record}
 use Rattle.starts.specs.Records.{reliable_of}
 use Rattle.restores.specs.declared.Handoff.{Handoff}
+use Rattle.restores.specs.declared.Given.{Given}
 
 -- ---- the rule book's handoff
 
+-- one whose body lies in a lent buffer
+abbrev pub lent_handoff : Given → R.Handoff
+lent_handoff h = record { id = h.id; number = h.number; body = h.body.now; sent = h.sent; acknowledged = h.acknowledged }
+
+abbrev pub given_if : Prelude.Option Given → Option R.Handoff
+given_if None = none
+given_if (Some h) = some (lent_handoff h)
+
+-- as C gives it
 abbrev pub given_in : Handoff → Bytes → R.Handoff
 given_in h b = record { id = h.id; number = h.number; body = b; sent = h.sent; acknowledged = h.acknowledged }
 
@@ -32,8 +43,12 @@ unfoldable pub restore_promise : Reliable → Option R.Handoff → Bool → Sess
 restore_promise r h short-of s l = if short-of then unchanged ShortBuffer s l else promise (restores r h) s l
 
 -- the list, the delivery buffer and the queue store, which a restore does not take, are whatever they are, the store at least as long as named
-abbrev pub Restored : Starts.Reliable → List ℕ → List ℕ → Bytes → Handoff → Bytes → SessionState → Bytes → Returned → Bytes → Type 0
-Restored r ns ks b handoff body s o x o' =
+abbrev pub RestoredBy : Starts.Reliable → List ℕ → List ℕ → Bytes → Option R.Handoff → SessionState → Bytes → Returned → Bytes → Type 0
+RestoredBy r ns ks b handoff s o x o' =
     (l : List ℕ) (d q : Bytes) → queue_bytes ≤ length q
     → exit (held x.session) x.answer x.events (lent l d o' q)
-    ≡ restore_promise (reliable_of r ns ks b) (handoff_given handoff body) (short_record ns ks b) s (lent l d o q)
+    ≡ restore_promise (reliable_of r ns ks b) handoff (short_record ns ks b) s (lent l d o q)
+
+-- the same of a handoff as C gives it
+abbrev pub Restored : Starts.Reliable → List ℕ → List ℕ → Bytes → Handoff → Bytes → SessionState → Bytes → Returned → Bytes → Type 0
+Restored r ns ks b handoff body = RestoredBy r ns ks b (handoff_given handoff body)

@@ -15,8 +15,6 @@ use Rattle.peer_session.specs.View.{handoff_of, handoff_length, state_of, Exact}
 use Rattle.session.specs.declared.Returned.{Returned}
 use Rattle.starts.specs.declared.Reliable.{Reliable}
 use Rattle.starts.specs.Records.{reliable_of, Fitting}
-use Rattle.restores.specs.declared.Handoff.{Handoff}
-use Rattle.restores.specs.Restored.{handoff_given}
 
 -- ---- the record
 
@@ -42,8 +40,8 @@ abbrev pub held_in : TerminalHandoff → R.Handoff
 held_in h = record { id = h.id; number = h.number; body = take h.len h.body; sent = h.sent; acknowledged = h.acknowledged }
 
 -- the one given
-pub record Handed (given : Handoff) (b : Bytes) (r : TerminalHandoff) : Type 0 where
-  pub is : handoff_of r ≡ handoff_given given b
+pub record Handed (given : Option R.Handoff) (r : TerminalHandoff) : Type 0 where
+  pub is : handoff_of r ≡ given
   pub full : length r.body ≡ 4096
   pub size : handoff_length r ≤ 4096
 

@@ -5,7 +5,7 @@ ghost use Rattle.std.specs.Prelude.{◌≡◌, not, ◌&&◌, ◌≤◌, length,
 ghost use Rattle.rules.specs.Start.{handoff_size, same_handoff, agrees};
 ghost use Rattle.rules.specs.Buffers.{repacked};
 ghost use Rattle.peer_session.specs.View.{handoff_of, handoff_length};
-ghost use Rattle.restores.specs.Restored.{given_in, handoff_given, Restored};
+ghost use Rattle.restores.specs.Restored.{lent_handoff, given_if, RestoredBy};
 ghost use Rattle.restores.specs.Steps.{held_in, Handed, Taking, Takes, Ends};
 
 use peer_session::{SessionState, TerminalHandoff};
@@ -13,16 +13,26 @@ use rules::{Answer, Disposition, Refusal};
 use session::Returned;
 use starts::Record;
 
-// The Rust's `Option<TerminalHandoff>` but for its body, which comes as a lent slice: one that is not present is none, whatever its other fields.
+// The Rust's `Option<TerminalHandoff>` as C gives it, but for its body, which comes as a slice: one that is not present is none, whatever its other fields.
 #[repr(C)]
 #[derive(Clone, Copy)]
 pub struct Handoff {
-    // C's struct: the other fields count only where it is present
+    // C has no Option
     pub present: bool,
     pub id: u64,
     pub number: u64,
     pub sent: bool,
     pub acknowledged: bool,
+}
+
+// The Rust's `TerminalHandoff`, as a restore is given it: its body lies in a lent buffer.
+#[derive(Clone, Copy)]
+pub struct Given<'a> {
+    pub id: u64,
+    pub number: u64,
+    pub sent: bool,
+    pub acknowledged: bool,
+    pub body: &'a [u8],
 }
 
 // ---- the record
@@ -40,11 +50,7 @@ pub fn repack(store: &mut [u8], bodies: &[u8], n: usize, end: usize)
 }
 
 // The record is taken: its messages with their bodies, its remote number and its disposition. The released remote number stays.
-fn taken(
-    s: SessionState,
-    outbound: &mut [u8],
-    record: Record,
-) -> SessionState
+fn taken(s: SessionState, outbound: &mut [u8], record: Record) -> SessionState
     requires { Taking «record».reliable «record».numbers.now «record».lengths.now «record».bodies.now s (length outbound.old) }
     ensures { Takes «record».entry.reliable «record».entry.numbers.now «record».entry.lengths.now «record».entry.bodies.now s outbound.old result outbound.new }
 {
@@ -64,9 +70,9 @@ fn taken(
 
 // ---- the handoff
 
-fn same_handoff(h: TerminalHandoff, given: Handoff, body: &[u8]) -> bool
+fn same_handoff(h: TerminalHandoff, given: Given) -> bool
     requires { h.len ≤ length h.body }
-    ensures { result ≡ same_handoff (held_in h) (given_in given body.now) }
+    ensures { result ≡ same_handoff (held_in h) (lent_handoff given.entry) }
 {
     if h.id != given.id {
         return false;
@@ -76,7 +82,7 @@ fn same_handoff(h: TerminalHandoff, given: Handoff, body: &[u8]) -> bool
     }
     let bytes = h.body;
     let len = h.len;
-    if !stores::same_bytes(&bytes[..len], body) {
+    if !stores::same_bytes(&bytes[..len], given.body) {
         return false;
     }
     if h.sent != given.sent {
@@ -86,50 +92,60 @@ fn same_handoff(h: TerminalHandoff, given: Handoff, body: &[u8]) -> bool
 }
 
 // Whether there is no handoff, or the same one.
-fn agrees(h: TerminalHandoff, given: Handoff, body: &[u8]) -> bool
+fn agrees(h: TerminalHandoff, given: Option<Given>) -> bool
     requires { handoff_length h ≤ length h.body }
-    ensures { result ≡ agrees (handoff_of h) (handoff_given given body.now) }
+    ensures { result ≡ agrees (handoff_of h) (given_if given.entry) }
 {
     if !h.present {
         return true;
     }
-    if !given.present {
-        return false;
+    match given {
+        Some(given) => same_handoff(h, given),
+        None => false,
     }
-    same_handoff(h, given, body)
+}
+
+// The size that counts: no handoff has none.
+pub fn size_of(given: Option<Given>) -> usize
+    ensures { result ≡ handoff_size (given_if given.entry) }
+{
+    match given {
+        Some(h) => h.body.len(),
+        None => 0,
+    }
 }
 
 // The handoff, with a copy of its body.
-fn handed(given: Handoff, body: &[u8]) -> TerminalHandoff
-    requires { handoff_size (handoff_given given body.now) ≤ 4096 }
-    ensures { Handed given body.now result }
+fn handed(given: Option<Given>) -> TerminalHandoff
+    requires { handoff_size (given_if given) ≤ 4096 }
+    ensures { Handed (given_if given.entry) result }
 {
-    if !given.present {
+    let Some(h) = given else {
         return peer_session::no_handoff();
-    }
+    };
     let mut bytes = [0u8; 4096];
-    stores::copy_in(&mut bytes, 0, body);
+    stores::copy_in(&mut bytes, 0, h.body);
     TerminalHandoff {
         body: bytes,
-        len: body.len(),
-        id: given.id,
-        number: given.number,
-        sent: given.sent,
-        acknowledged: given.acknowledged,
+        len: h.body.len(),
+        id: h.id,
+        number: h.number,
+        sent: h.sent,
+        acknowledged: h.acknowledged,
         present: true,
     }
 }
 
 // The Rust's `restore_terminal`: refused by 31, the session is left as it is.
-fn restore_terminal(s: SessionState, given: Handoff, body: &[u8]) -> Returned
-    requires { (handoff_length s.handoff ≤ length s.handoff.body) × (handoff_size (handoff_given given body.now) ≤ 4096) }
-    ensures { Ends (handoff_given given body.now) s result }
+fn restore_terminal(s: SessionState, given: Option<Given>) -> Returned
+    requires { (handoff_length s.handoff ≤ length s.handoff.body) × (handoff_size (given_if given) ≤ 4096) }
+    ensures { Ends (given_if given.entry) s result }
 {
     let old = s.handoff;
-    if !agrees(old, given, body) {
+    if !agrees(old, given) {
         return session::refused(s, Refusal::OtherHandoff);
     }
-    let new = handed(given, body);
+    let new = handed(given);
     let mut r = s;
     r.handoff = new;
     Returned {
@@ -159,10 +175,9 @@ pub fn restore(
     s: SessionState,
     outbound: &mut [u8],
     record: Record,
-    given: Handoff,
-    body: &[u8],
+    given: Option<Given>,
 ) -> Returned
-    ensures { Restored «record».entry.reliable «record».entry.numbers.now «record».entry.lengths.now «record».entry.bodies.now given body.now s outbound.old result outbound.new }
+    ensures { RestoredBy «record».entry.reliable «record».entry.numbers.now «record».entry.lengths.now «record».entry.bodies.now (given_if given.entry) s outbound.old result outbound.new }
 {
     if outbound.len() < SessionState::OUTBOUND_BYTES {
         return session::refused(s, Refusal::ShortBuffer);
@@ -179,12 +194,12 @@ pub fn restore(
     if !starts::good_record(record) {
         return session::refused(s, Refusal::BadRecord);
     }
-    if SessionState::MAX_HANDOFF < peer_session::handoff_length(given.present, body.len()) {
+    if SessionState::MAX_HANDOFF < size_of(given) {
         return session::refused(s, Refusal::HandoffTooLong);
     }
     if too_late(s.clock.generation, s.queue.count, s.waiting.count) {
         return session::refused(s, Refusal::RestoreTooLate);
     }
     let r = taken(s, outbound, record);
-    restore_terminal(r, given, body)
+    restore_terminal(r, given)
 }

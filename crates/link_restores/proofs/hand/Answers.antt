@@ -1,13 +1,13 @@
 use native.Mathlib.Omega.{arith}
-use borrow.Author.Tests.{not-true, not-false}
-use Rattle.link_restores.proofs.Handoffs.{hands_none, hands_at, short-body}
+use Rattle.restores.specs.Restored.{lent_handoff}
+use Rattle.link_restores.proofs.Handoffs.{hands_none, hands_at}
 use Rattle.link_restores.proofs.hand.Goals as goal
 
-pub returns-then-not-given : goal.returns-then-not-given
-returns-then-not-given c = hands_none _ _ _ _ (omega arith) (omega arith) (not-true _ c.if-not-given.true)
+pub returns-in_default : goal.returns-in_default
+returns-in_default c = rw c.in_default.is (hands_none _ _ (omega arith) (omega arith))
 
 pub copy_in-requires : goal.copy_in-requires
-copy_in-requires c = omega (arith, short-body c.args.given c.args.body.now c.args.words.now c.args.bytes.now (omega arith) (omega arith) (not-false _ c.if-not-given.false) c.requires)
+copy_in-requires c = omega (arith, rw c.in-Some.is at c.requires)
 
 pub returns : goal.returns
-returns c = hands_at c.args.given c.args.body.now c.args.words.now c.args.bytes.now (omega arith) (omega arith) (not-false _ c.if-not-given.false) c.requires _ _ c.flag_byte-sent.ensures c.flag_byte-acknowledged.ensures _ c.copy_in.ensures
+returns c = rw c.in-Some.is (hands_at c.args.words.now c.args.bytes.now (omega arith) (omega arith) (lent_handoff c.in-Some.given) (rw c.in-Some.is at c.requires) _ _ c.flag_byte-sent.ensures c.flag_byte-acknowledged.ensures _ c.copy_in.ensures)
