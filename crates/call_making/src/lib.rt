@@ -4,6 +4,7 @@
 use call_reading::records::{Handoff, Record};
 use call_reading::{Call, Lent, Opening};
 use peer_session::SessionState;
+use restores::Given;
 use rules::Refusal;
 use session::Returned;
 use starts::Reliable;
@@ -48,26 +49,15 @@ pub fn start(o: Opening, lent: Lent, stores: &mut Stores) -> Returned {
     )
 }
 
-// The handoff, and its body, which comes after those of the messages, up to index to.
-fn given(handoff: Option<Handoff>, body: &[u8], to: usize) -> (restores::Handoff, &[u8]) {
-    let Some(h) = handoff else {
-        let none = restores::Handoff {
-            present: false,
-            id: 0,
-            number: 0,
-            sent: false,
-            acknowledged: false,
-        };
-        return (none, b"");
-    };
-    let given = restores::Handoff {
-        present: true,
+// The handoff, whose body comes after those of the messages, up to index to.
+fn given<'a>(h: Handoff, body: &'a [u8], to: usize) -> Given<'a> {
+    Given {
         id: h.id,
         number: h.number,
         sent: h.sent,
         acknowledged: h.acknowledged,
-    };
-    (given, between(body, to, to.wrapping_add(h.len)))
+        body: between(body, to, to.wrapping_add(h.len)),
+    }
 }
 
 fn restore(
@@ -77,14 +67,8 @@ fn restore(
     lent: Lent,
     outbound: &mut [u8; 65536],
 ) -> Returned {
-    let (handoff, body) = given(h, lent.body, r.messages.to);
-    restores::restore(
-        s,
-        outbound,
-        lent_record(r, lent),
-        handoff,
-        body,
-    )
+    let given = h.map(|h| given(h, lent.body, r.messages.to));
+    restores::restore(s, outbound, lent_record(r, lent), given)
 }
 
 fn prepare(s: SessionState) -> Returned {

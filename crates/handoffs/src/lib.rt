@@ -1,7 +1,7 @@
 // The terminal handoff: the Rust's `channel_command` (coordination.rs, session.rs) and `validate_terminal_handoff` (peer_session.rs).
 #![tactic(auto)]
 
-ghost use Rattle.std.specs.Prelude.{◌≡◌, Bool, true, false, List, ℕ, ◌-◌, ◌≤◌, length, take, drop};
+ghost use Rattle.std.specs.Prelude.{◌≡◌, Bool, true, ◌≤◌, length};
 ghost use Rattle.std.proofs.Math.Option.{none, some};
 ghost use Rattle.rules.specs.Lists.{Bytes, any};
 ghost use Rattle.rules.specs.Calls.{commands};
@@ -10,7 +10,7 @@ ghost use Rattle.outbox.specs.Sound.{sound_outbox_of};
 ghost use Rattle.outbox.specs.View.{unacked_of, ExactOutbox};
 ghost use Rattle.session.specs.Promise.{CalledWithOutbound};
 ghost use Rattle.setup.specs.Steps.{Comes};
-ghost use Rattle.handoffs.specs.Commands.{lent_command, command_in, starting_in, commanding, HandsOver, carries_body, Vacant, Holding, validating};
+ghost use Rattle.handoffs.specs.Commands.{lent_command, command_in, command_of, starting_in, commanding, HandsOver, carries_body, Vacant, Holding, validating};
 
 use outbox::Outbox;
 use peer_session::{SessionState, TerminalHandoff};
@@ -22,6 +22,16 @@ use session::Returned;
 pub struct Command<'a> {
     pub id: u64,
     pub body: &'a [u8],
+}
+
+// The command that C gives, in its parts.
+pub fn command_of<'a>(present: bool, id: u64, body: &'a [u8]) -> Option<Command<'a>>
+    ensures { command_in result ≡ command_of present id body.now }
+{
+    if !present {
+        return None;
+    }
+    Some(Command { id, body })
 }
 
 // ---- steps
@@ -55,7 +65,7 @@ fn handed(id: u64, number: u64, body: &[u8]) -> TerminalHandoff
 }
 
 // The size that counts: no command has none.
-fn size_of(command: Option<Command>) -> usize
+pub fn size_of(command: Option<Command>) -> usize
     ensures { result ≡ command_size (command_in command.entry) }
 {
     match command {

@@ -88,8 +88,9 @@ pub extern "C" fn link_command(
 ) -> LinkAnswer
     ensures { Driven (parts words.old halves.old bytes.old clock.now) (parts words.new halves.new bytes.new clock.now) result (λ s y. CalledWithOutbound (commands restoring (command_of present id body.now)) s list.old outbound.old y list.new outbound.new) }
 {
+    let command = handoffs::command_of(present, id, body);
     link_handoffs::command(
-        words, halves, bytes, clock, list, outbound, restoring, present, id, body,
+        words, halves, bytes, clock, list, outbound, restoring, command,
     )
 }
 
@@ -116,7 +117,6 @@ pub extern "C" fn link_restore(
         lengths,
         bodies,
     };
-    link_restores::restore(
-        words, halves, bytes, clock, outbound, record, given, body,
-    )
+    let given = restores::given_with(given, body);
+    link_restores::restore(words, halves, bytes, clock, outbound, record, given)
 }

@@ -1,5 +1,5 @@
 -- A command on the parts of a session: its tests, and the call. Assumes nothing.
-use Rattle.std.specs.Prelude.{if◌then◌else◌, Err}
+use Rattle.std.specs.Prelude.{Err}
 use Prim.Native.Nat.{ℕ, ◌≤◌, ◌<◌}
 use mathlib.Core.Path.{◌≡◌, refl, sym, ◌∙◌}
 use mathlib.Core.Bool.{Bool, true, false, true≢false}
@@ -12,15 +12,15 @@ use Rattle.rules.specs.declared.Answer.TheVariants.{Refused}
 use Rattle.rules.specs.declared.Refusal.{Refusal}
 use Rattle.rules.specs.declared.Refusal.TheVariants.{HandoffTooLong}
 use Rattle.rules.specs.Lists.{Bytes}
-use Rattle.rules.specs.Handoff.{Command}
+use Rattle.rules.specs.Handoff.{Command, command_size}
 use Rattle.rules.specs.Calls.{commands}
 use Rattle.outbox.specs.View.{ExactOutbox}
 use Rattle.peer_session.specs.View.{state_of}
 use Rattle.session.specs.Promise.{CalledWithOutbound}
 use Rattle.session.proofs.Lengths.{not_taken}
 use Rattle.setup.proofs.Lending as L
-use Rattle.handoffs.specs.Commands.{command_of, commanding, Holding}
-use Rattle.handoffs.proofs.Commands.{plain, size_is, spent, too_long, holding, carries_out}
+use Rattle.handoffs.specs.Commands.{commanding, Holding}
+use Rattle.handoffs.proofs.Commands.{plain, spent, too_long, holding, carries_out}
 use Rattle.parts.specs.declared.LinkAnswer.{LinkAnswer}
 use Rattle.parts.specs.Codes.{answer_of}
 use Rattle.parts.specs.Parts.{Parts, parts, at, flag, outbox_in, opened_of}
@@ -39,24 +39,24 @@ a-command-call restoring c = record { queued = false; taken = plain.taken; known
 
 pub stopped_before : (p : Parts) {n m k : ℕ} {x : Refusal} → Turns p n m x → NotCommanding p n m k x
 stopped_before p f =
-    record { call = λ restoring present id body e l o d q. f.call (commands restoring (command_of present id body)) (a-command-call restoring (command_of present id body)) l d o q }
+    record { call = λ restoring c e l o d q. f.call (commands restoring c) (a-command-call restoring c) l d o q }
 
 module _ (p : Parts) {n m k : ℕ} (ready : Ready p n m) where
   pub size_too_long : 4096 < k → NotCommanding p n m k HandoffTooLong
   size_too_long f =
       record {
-        call = λ restoring present id body e l o d q el eo lq r t.
+        call = λ restoring c e l o d q el eo lq r t.
             L.refused plain (opened_of p) l d o q (λ x. omega (arith, el, ready.list)) (λ x. omega (arith, eo, ready.outbound)) not_taken (sym ready.checked.is) ready.checked.full
             (omega (arith, eo, ready.outbound)) lq t
-            (too_long restoring (command_of present id body) (state_of (opened_of p) o q) ready.low (omega (arith, e ∙ size_is present id body)));
+            (too_long restoring c (state_of (opened_of p) o q) ready.low (omega (arith, e)));
       }
 
 -- what they refuse
-pub turned : (w h b : List ℕ) (t : Float) (l : List ℕ) (o : Bytes) (restoring present : Bool) (id : ℕ) (body : Bytes) {k : ℕ} → k ≡ (if present then length body else 0) → {x : Refusal}
+pub turned : (w h b : List ℕ) (t : Float) (l : List ℕ) (o : Bytes) (restoring : Bool) (c : Option Command) {k : ℕ} → k ≡ command_size c → {x : Refusal}
     → Enters w h b (length l) (length o) k (Err x) → {y : LinkAnswer} → y ≡ answer_of (Refused x) 0
-    → Driven (parts w h b t) (parts w h b t) y (λ s r. CalledWithOutbound (commands restoring (command_of present id body)) s l o r l o)
-turned w h b t l o restoring present id body ek {x} f z =
-    refuses (parts w h b t) x z (λ r u d q lq. (f t).call restoring present id body ek l o d q refl refl lq r u)
+    → Driven (parts w h b t) (parts w h b t) y (λ s r. CalledWithOutbound (commands restoring c) s l o r l o)
+turned w h b t l o restoring c ek {x} f z =
+    refuses (parts w h b t) x z (λ r u d q lq. (f t).call restoring c ek l o d q refl refl lq r u)
 
 -- ---- past them
 
@@ -91,16 +91,16 @@ pub by_command : (restoring : Bool) {c d : Option Command} → c ≡ d → {p p'
     → ComesIn (commanding restoring c) p p' l o y l' o'
 by_command restoring e w = rw e w
 
-pub drives : (w h b : List ℕ) (t : Float) (l : List ℕ) (o : Bytes) (restoring present : Bool) (id : ℕ) (body : Bytes) {k : ℕ} → k ≡ (if present then length body else 0)
+pub drives : (w h b : List ℕ) (t : Float) (l : List ℕ) (o : Bytes) (restoring : Bool) (c : Option Command) {k : ℕ} → k ≡ command_size c
     → Ready (parts w h b t) (length l) (length o) × (k ≤ 4096) → length h ≡ 772 → {h₁ b₁ : List ℕ} → Starts restoring h b h₁ b₁ → {p' : Parts} {l' : List ℕ} {o' : Bytes} {y : LinkAnswer}
-    → ComesIn (commanding restoring (command_of present id body)) (parts w h₁ b₁ t) p' l o y l' o'
-    → Driven (parts w h b t) p' y (λ s r. CalledWithOutbound (commands restoring (command_of present id body)) s l o r l' o')
-drives w h b t l o restoring present id body ek (ready, few) lh st g =
+    → ComesIn (commanding restoring c) (parts w h₁ b₁ t) p' l o y l' o'
+    → Driven (parts w h b t) p' y (λ s r. CalledWithOutbound (commands restoring c) s l o r l' o')
+drives w h b t l o restoring c ek (ready, few) lh st g =
     record {
       returned = g.returned;
       called =
-          carries_out restoring (command_of present id body) (opened_of (parts w h b t)) l o ready.list ready.outbound (sym ready.checked.is) ready.checked.full ready.low
-          (rw (ek ∙ size_is present id body) at few) (started w h b t ready.checked lh restoring st) refl g.comes;
+          carries_out restoring c (opened_of (parts w h b t)) l o ready.list ready.outbound (sym ready.checked.is) ready.checked.full ready.low
+          (rw ek at few) (started w h b t ready.checked lh restoring st) refl g.comes;
       leaves = g.leaves;
       answers = g.answers;
       kept = λ z. absurd (true≢false (ready.checked.is ∙ z));

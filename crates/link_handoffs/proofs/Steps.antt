@@ -27,7 +27,6 @@ use Rattle.setup.specs.Steps.{Asks, staged, Comes}
 use Rattle.handoffs.specs.Commands.{starting_in, commanding, HandsOver}
 use Rattle.handoffs.proofs.Steps as Plain
 use Rattle.handoffs.proofs.Steps.{handing}
-use Rattle.restores.specs.declared.Handoff.{Handoff}
 use Rattle.parts.specs.declared.LinkAnswer.{LinkAnswer}
 use Rattle.parts.specs.Codes.{answer_of, stage_of}
 use Rattle.parts.specs.Parts.{Parts, parts, at, flag, outbox_in, clock_in, codes_in, handoff_in, opened_of}
@@ -195,19 +194,19 @@ module _ (w h b : List ℕ) (t : Float) (l : List ℕ) (o body : Bytes) (id : �
       })
 
   -- the handoff that is written
-  abbrev written : Handoff
-  written = record { present = true; id = id; number = at w 0; sent = false; acknowledged = false }
+  abbrev written : R.Handoff
+  written = record { id = id; number = at w 0; body = body; sent = false; acknowledged = false }
 
   next_in : at w 0 ≡ s.outbox.next
   unfolding opened_of
   next_in = refl
 
-  hands_over : {w₁ b₁ w₂ b₂ : List ℕ} → HandedIn written body w₁ b₁ w₂ b₂ → HandsOver id s.outbox.next body (handoff_in w₂ b₂)
+  hands_over : {w₁ b₁ w₂ b₂ : List ℕ} → HandedIn (some written) w₁ b₁ w₂ b₂ → HandsOver id s.outbox.next body (handoff_in w₂ b₂)
   hands_over {w₂ = w₂} {b₂ = b₂} g =
       subst (λ (n : ℕ). HandsOver id n body (handoff_in w₂ b₂)) next_in (record { is = g.handed.is; full = g.handed.full; size = g.handed.size })
 
   module _ (lh : length h ≡ 772) where
-    pub goes : {w₁ h₁ b₁ : List ℕ} {o' : Bytes} (a : AllocatesIn body w h b o (Ok tt) w₁ h₁ b₁ o') → {w₂ b₂ : List ℕ} → HandedIn written body w₁ b₁ w₂ b₂
+    pub goes : {w₁ h₁ b₁ : List ℕ} {o' : Bytes} (a : AllocatesIn body w h b o (Ok tt) w₁ h₁ b₁ o') → {w₂ b₂ : List ℕ} → HandedIn (some written) w₁ b₁ w₂ b₂
         → {y : LinkAnswer} {l' : List ℕ} → AsksIn (clock_in (raised h h₁) t) l y l' → (restoring : Bool)
         → ComesIn (commanding restoring (some c)) (parts w h b t) (parts w₂ (raised h h₁) b₂ t) l o y l' o'
     goes {w₁} {h₁} {b₁} a {w₂} {b₂} g {l' = l'} q restoring =

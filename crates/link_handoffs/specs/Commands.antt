@@ -1,12 +1,14 @@
 -- The steps of a command on the parts of a session. Assumes nothing.
-use Rattle.std.specs.Prelude.{ℕ, ◌≤◌, ◌≡◌, Bool, true, false, List, Float, length, if◌then◌else◌, Result, Ok, Err}
+use Rattle.std.specs.Prelude.{ℕ, ◌≤◌, ◌≡◌, Bool, true, false, List, Float, length, Result, Ok, Err}
 use Rattle.rules.specs.declared.Clock.{Clock}
 use Rattle.rules.specs.declared.Refusal.{Refusal}
 use Rattle.rules.specs.declared.Answer.TheVariants.{Done}
 use Rattle.rules.specs.declared.Terms.{Terms}
+use Rattle.std.proofs.Math.Option.{Option}
 use Rattle.rules.specs.Lists.{Bytes}
 use Rattle.rules.specs.State as R
 use Rattle.rules.specs.Progress.{Outcome}
+use Rattle.rules.specs.Handoff.{Command, command_size}
 use Rattle.rules.specs.Calls.{commands}
 use Rattle.events.specs.Written.{Listed, asked}
 use Rattle.outbox.specs.View.{ExactOutbox}
@@ -14,7 +16,6 @@ use Rattle.outbox.specs.Sound.{sound_outbox_of}
 use Rattle.session.specs.declared.Returned.{Returned}
 use Rattle.session.specs.Promise.{lent, Called, Turned}
 use Rattle.setup.specs.Steps.{Comes}
-use Rattle.handoffs.specs.Commands.{command_of}
 use Rattle.parts.specs.declared.LinkAnswer.{LinkAnswer}
 use Rattle.parts.specs.Codes.{answer_of}
 use Rattle.parts.specs.Parts.{Parts, parts, at, flag, outbox_in, opened_of}
@@ -24,9 +25,9 @@ use Rattle.link_setup.specs.Steps.{Stages}
 -- ---- the tests in their order, a send's and the body's: for a list of n words, an outbound store of m bytes and a body of which k bytes count
 
 pub record NotCommanding (p : Parts) (n m k : ℕ) (x : Refusal) : Type 0 where
-  pub call : (restoring present : Bool) (id : ℕ) (body : Bytes) → k ≡ (if present then length body else 0) → (l : List ℕ) (o d q : Bytes) → length l ≡ n → length o ≡ m
+  pub call : (restoring : Bool) (c : Option Command) → k ≡ command_size c → (l : List ℕ) (o d q : Bytes) → length l ≡ n → length o ≡ m
       → 32768 ≤ length q → (r : Returned) → Turned (opened_of p) x r
-      → Called (commands restoring (command_of present id body)) (opened_of p) (lent l d o q) r (lent l d o q)
+      → Called (commands restoring c) (opened_of p) (lent l d o q) r (lent l d o q)
 
 abbrev pub Found : Parts → ℕ → ℕ → ℕ → Result (Unit {0}) Refusal → Type 0
 Found p n m k (Ok tt) = Ready p n m × (k ≤ 4096)

@@ -5,19 +5,20 @@ ghost use Rattle.std.specs.Prelude.{◌≡◌, Bool, true, false, List, ℕ, ◌
 ghost use Rattle.std.proofs.Math.Option.{none, some};
 ghost use Rattle.rules.specs.Lists.{Bytes, any, same};
 ghost use Rattle.rules.specs.Calls.{commands};
-ghost use Rattle.rules.specs.Handoff.{numbered_to};
+ghost use Rattle.rules.specs.Handoff.{numbered_to, command_size};
 ghost use Rattle.outbox.specs.Sound.{sound_outbox_of};
 ghost use Rattle.outbox.specs.View.{unacked_of, ExactOutbox};
 ghost use Rattle.session.specs.Promise.{CalledWithOutbound};
-ghost use Rattle.handoffs.specs.Commands.{command_of, commanding, carries_body, validating};
+ghost use Rattle.handoffs.specs.Commands.{lent_command, command_in, commanding, carries_body, validating};
 ghost use Rattle.parts.specs.Parts.{parts, at, flag, section, clock_in, outbox_in};
 ghost use Rattle.parts.specs.Driven.{Driven};
 ghost use Rattle.link_sending.specs.Sends.{Ready};
 ghost use Rattle.link_handoffs.specs.Commands.{Enters, Starts, ComesIn, AsksIn, HoldingIn};
 
+use handoffs::Command;
 use parts::{Bytes, Halves, LinkAnswer, SetupCode, Words};
 use peer_session::SessionState;
-use restores::Handoff;
+use restores::Given;
 use rules::{Refusal, Terms};
 
 // The tests of a command, in their order, a send's first: size is how many bytes of its body count.
@@ -161,25 +162,24 @@ fn hand_off(
     clock: &f64,
     list: &mut [u64],
     outbound: &mut [u8],
-    id: u64,
-    body: &[u8],
+    c: Command,
 ) -> LinkAnswer
-    requires { Ready (parts words.old halves.old bytes.old clock.now) (length list.old) (length outbound.old) × (flag (at bytes.old 775) ≡ false) × (length body.now ≤ 4096) }
-    ensures { (restoring : Bool) → ComesIn (commanding restoring (some (record { id = id; body = body.now }))) (parts words.old halves.old bytes.old clock.now) (parts words.new halves.new bytes.new clock.now) list.old outbound.old result list.new outbound.new }
+    requires { Ready (parts words.old halves.old bytes.old clock.now) (length list.old) (length outbound.old) × (flag (at bytes.old 775) ≡ false) × (length c.body.now ≤ 4096) }
+    ensures { (restoring : Bool) → ComesIn (commanding restoring (some (lent_command c.entry))) (parts words.old halves.old bytes.old clock.now) (parts words.new halves.new bytes.new clock.now) list.old outbound.old result list.new outbound.new }
 {
     let number = words[parts::NEXT];
     let generation = halves[parts::GENERATION];
-    match link_sending::allocate(words, halves, bytes, outbound, body) {
+    match link_sending::allocate(words, halves, bytes, outbound, c.body) {
         Ok(()) => {
             halves[parts::GENERATION] = generation + 1;
-            let given = Handoff {
-                present: true,
-                id: id,
-                number: number,
+            let given = Given {
+                id: c.id,
+                number,
                 sent: false,
                 acknowledged: false,
+                body: c.body,
             };
-            link_restores::hand(words, bytes, given, body);
+            link_restores::hand(words, bytes, Some(given));
             done(halves, clock, list)
         }
         Err(x) => link_codes::refusal(x),
@@ -195,19 +195,18 @@ fn pending(
     list: &mut [u64],
     outbound: &[u8],
     restoring: bool,
-    id: u64,
-    body: &[u8],
+    c: Command,
 ) -> LinkAnswer
     requires { (4096 ≤ length list.old) × HoldingIn words.now halves.now bytes.now (length outbound.now) }
-    ensures { ComesIn (commanding restoring (some (record { id = id; body = body.now }))) (parts words.now halves.now bytes.now clock.now) (parts words.now halves.now bytes.now clock.now) list.old outbound.now result list.new outbound.now }
+    ensures { ComesIn (commanding restoring (some (lent_command c.entry))) (parts words.now halves.now bytes.now clock.now) (parts words.now halves.now bytes.now clock.now) list.old outbound.now result list.new outbound.now }
 {
     if !restoring {
         return link_codes::refusal(Refusal::HandoffPending);
     }
-    if words[parts::HANDOFF_ID] != id {
+    if words[parts::HANDOFF_ID] != c.id {
         return link_codes::refusal(Refusal::CommandDiffers);
     }
-    if !same_body(words, bytes, body) {
+    if !same_body(words, bytes, c.body) {
         return link_codes::refusal(Refusal::CommandDiffers);
     }
     validate(words, halves, bytes, clock, list, outbound)
@@ -222,22 +221,18 @@ fn goes(
     list: &mut [u64],
     outbound: &mut [u8],
     restoring: bool,
-    present: bool,
-    id: u64,
-    body: &[u8],
+    command: Option<Command>,
 ) -> LinkAnswer
-    requires { Ready (parts words.old halves.old bytes.old clock.now) (length list.old) (length outbound.old) × (present ≡ true → length body.now ≤ 4096) }
-    ensures { ComesIn (commanding restoring (command_of present id body.now)) (parts words.old halves.old bytes.old clock.now) (parts words.new halves.new bytes.new clock.now) list.old outbound.old result list.new outbound.new }
+    requires { Ready (parts words.old halves.old bytes.old clock.now) (length list.old) (length outbound.old) × (command_size (command_in command) ≤ 4096) }
+    ensures { ComesIn (commanding restoring (command_in command.entry)) (parts words.old halves.old bytes.old clock.now) (parts words.new halves.new bytes.new clock.now) list.old outbound.old result list.new outbound.new }
 {
-    if !present {
+    let Some(c) = command else {
         return no_command(words, halves, bytes, clock, list, restoring);
-    }
+    };
     if bytes[parts::HANDOFF_PRESENT] == 0 {
-        return hand_off(words, halves, bytes, clock, list, outbound, id, body);
+        return hand_off(words, halves, bytes, clock, list, outbound, c);
     }
-    pending(
-        words, halves, bytes, clock, list, outbound, restoring, id, body,
-    )
+    pending(words, halves, bytes, clock, list, outbound, restoring, c)
 }
 
 // A channel's command: its body is handed to the link, or is there already.
@@ -249,18 +244,16 @@ pub fn command(
     list: &mut [u64],
     outbound: &mut [u8],
     restoring: bool,
-    present: bool,
-    id: u64,
-    body: &[u8],
+    command: Option<Command>,
 ) -> LinkAnswer
-    ensures { Driven (parts words.old halves.old bytes.old clock.now) (parts words.new halves.new bytes.new clock.now) result (λ s y. CalledWithOutbound (commands restoring (command_of present id body.now)) s list.old outbound.old y list.new outbound.new) }
+    ensures { Driven (parts words.old halves.old bytes.old clock.now) (parts words.new halves.new bytes.new clock.now) result (λ s y. CalledWithOutbound (commands restoring (command_in command.entry)) s list.old outbound.old y list.new outbound.new) }
 {
-    let size = peer_session::handoff_length(present, body.len());
+    let size = handoffs::size_of(command);
     match enters(words, halves, bytes, list.len(), outbound.len(), size) {
         Ok(()) => {
             starting(halves, bytes, restoring);
             goes(
-                words, halves, bytes, clock, list, outbound, restoring, present, id, body,
+                words, halves, bytes, clock, list, outbound, restoring, command,
             )
         }
         Err(x) => link_codes::refusal(x),

@@ -5,7 +5,7 @@ ghost use Rattle.std.specs.Prelude.{◌≡◌, not, ◌&&◌, ◌≤◌, length,
 ghost use Rattle.rules.specs.Start.{handoff_size, same_handoff, agrees};
 ghost use Rattle.rules.specs.Buffers.{repacked};
 ghost use Rattle.peer_session.specs.View.{handoff_of, handoff_length};
-ghost use Rattle.restores.specs.Restored.{lent_handoff, given_if, RestoredBy};
+ghost use Rattle.restores.specs.Restored.{lent_handoff, given_if, handoff_given, RestoredBy};
 ghost use Rattle.restores.specs.Steps.{held_in, Handed, Taking, Takes, Ends};
 
 use peer_session::{SessionState, TerminalHandoff};
@@ -33,6 +33,22 @@ pub struct Given<'a> {
     pub sent: bool,
     pub acknowledged: bool,
     pub body: &'a [u8],
+}
+
+// The handoff that C gives, with its body.
+pub fn given_with<'a>(h: Handoff, body: &'a [u8]) -> Option<Given<'a>>
+    ensures { given_if result ≡ handoff_given h body.now }
+{
+    if !h.present {
+        return None;
+    }
+    Some(Given {
+        id: h.id,
+        number: h.number,
+        sent: h.sent,
+        acknowledged: h.acknowledged,
+        body,
+    })
 }
 
 // ---- the record

@@ -10,7 +10,7 @@ pub overflow_add-halves : goal.overflow_add-halves
 overflow_add-halves c = omega (arith, low_in c.args.words.now c.args.halves.now c.args.bytes.now c.args.clock.now c.args.outbound.now c.requires.0)
 
 pub returns-in-Ok : goal.returns-in-Ok
-returns-in-Ok c = goes c.args.words.now c.args.halves.now c.args.bytes.now c.args.clock.now c.args.list.now c.args.outbound.now c.args.body.now c.args.id c.requires.0 c.requires.1 (omega arith) c.in-Ok.ensures c.hand.ensures c.done.ensures
+returns-in-Ok c = goes c.args.words.now c.args.halves.now c.args.bytes.now c.args.clock.now c.args.list.now c.args.outbound.now c.args.c.body.now c.args.c.id c.requires.0 c.requires.1 (omega arith) c.in-Ok.ensures c.hand.ensures c.done.ensures
 
 pub returns-in-Err : goal.returns-in-Err
-returns-in-Err c = stopped c.args.words.now c.args.halves.now c.args.bytes.now c.args.clock.now c.args.list.now c.args.outbound.now c.args.body.now c.args.id c.requires.0 c.requires.1 c.in-Err.ensures c.refusal.ensures
+returns-in-Err c = stopped c.args.words.now c.args.halves.now c.args.bytes.now c.args.clock.now c.args.list.now c.args.outbound.now c.args.c.body.now c.args.c.id c.requires.0 c.requires.1 c.in-Err.ensures c.refusal.ensures
