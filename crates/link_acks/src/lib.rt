@@ -1,7 +1,7 @@
 // Acks on the parts of a session, in place: the driver's call on the session that they are.
 #![tactic(auto)]
 
-ghost use Rattle.std.specs.Prelude.{◌≡◌, true, false, ◌&&◌, ◌||◌, ◌≤◌, ◌<◌, length, leb, eqb};
+ghost use Rattle.std.specs.Prelude.{◌≡◌, false, ◌&&◌, ◌||◌, ◌≤◌, ◌<◌, length, leb, eqb};
 ghost use Rattle.rules.specs.Lists.{Bytes};
 ghost use Rattle.rules.specs.Calls.{gets_ack};
 ghost use Rattle.session.specs.Promise.{CalledWithStores};

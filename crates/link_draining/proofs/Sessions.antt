@@ -9,7 +9,7 @@ use lib.Dec.{eqb, ltb}
 use lib.Ieee.{Float}
 use lib.ListN.{length, set, length-set}
 use lib.Seq.{get_or-set_same}
-use borrow.Author.Tests.{eqb-true, eq-eqb, ne_eqb}
+use borrow.Author.Tests.{eqb-true}
 use Rattle.rules.specs.declared.Clock.{Clock}
 use Rattle.rules.specs.declared.ReceiveMode.{ReceiveMode}
 use Rattle.rules.specs.declared.ReceiveMode.TheVariants.{Raw, Proposal, Channel, Rejection, Retiring}
@@ -137,13 +137,6 @@ channel_code m true e = ap (λ (k : ℕ). is_channel (mode_of k)) (eqb-true m 2 
 channel_code m false e =
     ap (λ (z : Bool). is_channel (if eqb m 0 then Raw else if eqb m 1 then Proposal else if z then Channel else if eqb m 3 then Rejection else Retiring)) e
     ∙ not_channel (eqb m 0) (eqb m 1) (eqb m 3)
-
--- by the code of the mode
-pub failed-bytes : (b : List ℕ) → at b 771 ≡ 2 → set b 772 1 ≡ failed_bytes b
-failed-bytes b e = sym (ap (λ (z : Bool). if z then set b 772 1 else b) (eq-eqb (at b 771) 2 e))
-
-pub same_bytes : (b : List ℕ) → (at b 771 ≡ 2 → ⊥) → b ≡ failed_bytes b
-same_bytes b e = sym (ap (λ (z : Bool). if z then set b 772 1 else b) (ne_eqb (at b 771) 2 e))
 
 abbrev pub with_failed : Bool → SessionState → SessionState
 with_failed f s =

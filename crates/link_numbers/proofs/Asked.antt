@@ -11,9 +11,9 @@ use lib.Dec.{eqb, leb, ltb}
 use borrow.Author.Tests.{eq-eqb, ne_eqb, eqb-true, eqb-false, le-leb, lt-ltb, le-ltb, ltb-true, leb-true}
 use Rattle.stores.specs.Fronts.{front}
 use Rattle.stores.proofs.Scans.{rises-on, rises_not}
-use Rattle.rules.specs.Lists.{any, has, all, rising, itself, put, kept}
+use Rattle.rules.specs.Lists.{any, has, all, rising, itself}
 use Rattle.rules.specs.Sound.{at_most, ascending}
-use Rattle.rules.proofs.Lists.{if_rule, and_left, and_right, and_both, rising-put, rising-kept}
+use Rattle.rules.proofs.Lists.{and_left, and_right}
 use Rattle.numbers.specs.Seats.{under, seat_of}
 use Rattle.numbers.proofs.Laws.{ascending-none, ascending_some}
 use Rattle.parts.specs.Parts.{at, section}
@@ -89,22 +89,6 @@ head-below x (y ∷ ys) (suc k) e h =
     let l : x < y = ltb-true x y (and_left (ltb x y) _ e) in
     let r : y < get_or ys k 0 = head-below y ys k (and_right (ltb x y) _ e) (omega arith) in
     omega arith
-
--- and still ascends with a number put, and without some
-
-pub put_ascends : (n : ℕ) (ns : List ℕ) → ascending ns ≡ true → ascending (put itself n ns) ≡ true
-unfolding put rising
-put_ascends n [] e = refl
-put_ascends n (x ∷ xs) e =
-    if_rule (λ (l : List ℕ). ascending l ≡ true) (ltb n x) _ _ (λ h. and_both (ltb n x) _ h e)
-    (λ h. if_rule (λ (l : List ℕ). ascending l ≡ true) (ltb x n) _ _ (λ k. rising-put itself n x xs (ltb-true x n k) e) (λ k. e))
-
-pub kept_ascends : (p : ℕ → Bool) (ns : List ℕ) → ascending ns ≡ true → ascending (kept p ns) ≡ true
-unfolding kept
-kept_ascends p [] e = refl
-kept_ascends p (x ∷ xs) e =
-    let r : rising itself x (kept p xs) ≡ true = rising-kept itself p x xs e in
-    if_rule (λ (l : List ℕ). ascending l ≡ true) (p x) _ _ (λ h. r) (λ h. tail_ascends x (kept p xs) r)
 
 -- its last number is its largest
 pub last_decides : (limit : ℕ) (ns : List ℕ) (k : ℕ) → ascending ns ≡ true → length ns ≡ suc k → leb (get_or ns k 0) limit ≡ all (at_most limit) ns

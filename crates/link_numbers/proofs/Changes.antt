@@ -2,7 +2,7 @@
 use Rattle.std.specs.Prelude.{if◌then◌else◌}
 use Prim.Native.Nat.{ℕ, ◌+◌, ◌-◌, ◌*◌, ◌≤◌, ◌<◌}
 use mathlib.Core.Path.{◌≡◌, sym, ap, ◌∙◌, subst}
-use mathlib.Core.Bool.{Bool, true}
+use mathlib.Core.Bool.{Bool}
 use mathlib.Core.List.{List, [], ◌∷◌, ◌++◌, map}
 use native.Mathlib.Omega.{arith}
 use lib.ListN.{length, take, drop, set, length-take, length-drop}
@@ -20,7 +20,6 @@ use Rattle.stores.proofs.Sifts.{Sifted, sifted_none, sifted_more}
 use Rattle.rules.specs.Lists.{kept, put, itself}
 use Rattle.rules.specs.Commits.{releases_ack}
 use Rattle.rules.specs.Events.{send_ack}
-use Rattle.rules.specs.Sound.{ascending}
 use Rattle.numbers.specs.declared.Numbers.{Numbers}
 use Rattle.numbers.specs.Seats.{in_use, ExactNumbers, Holds, seat_of, step}
 use Rattle.numbers.proofs.Laws.{put-at-is, put_old, put-room, put-new, seat_within}
@@ -252,11 +251,3 @@ module _ {from count : ℕ} {w : List ℕ} (r : Rising from count w) where
       pub put-comes : {w' : List ℕ} → Becomes (take k (in_use (numbers_in from count w)) ++ (n ∷ drop k (in_use (numbers_in from count w)))) from count w w'
           → Becomes (put itself n (in_use (numbers_in from count w))) from count w w'
       put-comes {w'} b = record { holds = put-new v n k x.few x.full e new (numbers_in from count w') b.holds; only = b.only }
-
--- a set that becomes numbers that rise
-pub becomes_rising : {ns : List ℕ} {from count : ℕ} {w w' : List ℕ} → Set from count w → Becomes ns from count w w' → ascending ns ≡ true → Rising from count w'
-becomes_rising s b e =
-    record {
-      set = record { within = s.within; outside = s.outside; exact = b.holds.exact };
-      rises = ap ascending b.holds.held ∙ e;
-    }

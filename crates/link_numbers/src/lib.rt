@@ -1,7 +1,7 @@
 // Sets of numbers in the words of a session, in place: 512 words from index `from` on, rising, with their count at index `at` before them.
 #![tactic(auto)]
 
-ghost use Rattle.std.specs.Prelude.{◌≡◌, true, ◌++◌, ◌∷◌, [], map, ◌+◌, ◌-◌, ◌*◌, ◌≤◌, ◌<◌, length, take, drop, ltb};
+ghost use Rattle.std.specs.Prelude.{◌≡◌, true, ◌++◌, ◌∷◌, [], map, ◌+◌, ◌-◌, ◌*◌, ◌≤◌, ◌<◌, length, take, drop};
 ghost use Rattle.std.proofs.Math.Seq.{slice};
 ghost use Rattle.rules.specs.Lists.{itself, has, put, all, rising, kept};
 ghost use Rattle.rules.specs.Acks.{differs_from};
@@ -9,7 +9,7 @@ ghost use Rattle.rules.specs.Commits.{releases_ack};
 ghost use Rattle.rules.specs.Events.{send_ack};
 ghost use Rattle.rules.specs.Sound.{at_most, ascending};
 ghost use Rattle.events.specs.Written.{Listed};
-ghost use Rattle.numbers.specs.Seats.{in_use, seat_of, step};
+ghost use Rattle.numbers.specs.Seats.{in_use, seat_of};
 ghost use Rattle.parts.specs.Parts.{section, numbers_in};
 ghost use Rattle.link_numbers.specs.Sets.{Set, Lies, firsts, Rising, Becomes, Releases};
 

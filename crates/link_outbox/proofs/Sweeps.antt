@@ -85,9 +85,6 @@ module _ (ack : ℕ) (w h b : List ℕ) (s : Bytes) (exact : ExactOutbox (outbox
   sweeps_none lh lb =
       record { halves = lh; bytes = lb; past-halves = past_same 512 h; past_bytes = past_same 512 b; turns = starts ack (outbox_in w h b) s exact }
 
-  pub sweeps_end : {h' b' : List ℕ} {s' : Bytes} {k i to from : ℕ} → Sweeps ack (at w 1) h b s h' b' s' k i to from → to ≤ from × from ≤ length s'
-  sweeps_end g = (g.turns.sweeping.down, omega (arith, g.turns.sweeping.room))
-
   pub dropped : length w ≡ 1296 → (h' b' : List ℕ) (s' : Bytes) (k i to from : ℕ) → Sweeps ack (at w 1) h b s h' b' s' k i to from → at w 1 ≤ i
       → (o : Bytes) → o ≡ placed s' to (replicate (from - to) 0) → Drops ack w h b s (set w 1 k) h' b' o
   dropped lw h' b' s' k i to from g stop o eo =

@@ -1,7 +1,7 @@
 // The unacked messages of a session that C lends, worked on where they lie. Numbers and pending flags start at index 0 of their parts.
 #![tactic(auto)]
 
-ghost use Rattle.std.specs.Prelude.{◌≡◌, true, false, not, ◌&&◌, ◌||◌, eqb, leb, ltb, List, ℕ, ◌+◌, ◌*◌, ◌≤◌, ◌<◌, length, take, if◌then◌else◌};
+ghost use Rattle.std.specs.Prelude.{◌≡◌, true, ◌&&◌, ◌||◌, leb, ltb, List, ℕ, ◌+◌, ◌*◌, ◌≤◌, ◌<◌, length, take, if◌then◌else◌};
 ghost use Rattle.std.proofs.Math.Seq.{slice};
 ghost use Rattle.rules.specs.Lists.{total};
 ghost use Rattle.outbox.specs.Sweeps.{Lowers};
@@ -13,7 +13,7 @@ ghost use Rattle.outbox.specs.View.{used_u, ExactOutbox};
 ghost use Rattle.outbox.specs.Records.{place_u};
 ghost use Rattle.outbox.specs.Steps.{Room, Replays};
 ghost use Rattle.link_outbox.specs.Steps.{Joins, Marks, Frees, Drops, Shifted, Front, freed, Sends};
-ghost use Rattle.link_outbox.specs.Tests.{fall, falls, Steps, low, stayer, Bounded, Sought};
+ghost use Rattle.link_outbox.specs.Tests.{falls, Steps, low, stayer, Bounded, Sought};
 
 use outbox::Place;
 use parts::{Bytes, Halves, Words};
@@ -212,9 +212,9 @@ fn send_if(goes: bool, number: u32, len: u32, list: &mut [u64], n: usize, from: 
             list,
             n,
             EventCode::SendData as u64,
-            number as u64,
+            u64::from(number),
             from as u64,
-            len as u64,
+            u64::from(len),
         );
         return n + 1;
     }
@@ -421,7 +421,7 @@ pub fn locate(words: &Words, halves: &Halves, number: u64) -> Option<Place>
     let mut start = 0;
     for i in 0..count {
         let len = halves[parts::UNACKED_LENS + i] as usize;
-        if halves[i] as u64 == number {
+        if u64::from(halves[i]) == number {
             return Some(Place { start, len });
         }
         start += len;

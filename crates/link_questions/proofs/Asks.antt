@@ -1,11 +1,10 @@
 -- The questions, by what they read of the parts. Assumes nothing.
 use Prim.Native.Nat.{ℕ}
-use mathlib.Core.Path.{◌≡◌, refl, sym, ap, ◌∙◌}
+use mathlib.Core.Path.{◌≡◌, refl, sym, ◌∙◌}
 use mathlib.Core.Bool.{false}
 use mathlib.Core.List.{List}
 use lib.Dec.{eqb, ltb}
 use lib.Ieee.{Float}
-use Rattle.rules.specs.declared.Setup.{Setup}
 use Rattle.rules.specs.Clock.{dirty}
 use Rattle.rules.specs.Lists.{Bytes}
 use Rattle.rules.specs.Setup.{rejection_complete}
@@ -19,11 +18,6 @@ module _ (w h b : List ℕ) (t : Float) (o q : Bytes) where
   pub is-dirty : ltb (at h 770) (at h 768) ≡ dirty (state_of (opened_of (parts w h b t)) o q)
   unfolding opened_of
   is-dirty = refl
-
-  -- a question of the setup x
-  pub asked : {A : Type 0} (f : Setup → A) {s x : Setup} → s ≡ (stage_of (codes_in h b)).setup → s ≡ x → f x ≡ f (state_of (opened_of (parts w h b t)) o q).stage.setup
-  unfolding opened_of
-  asked f is e = ap f (sym e ∙ is)
 
   module _ {d : ℕ} (is : d ≡ (stage_of (codes_in h b)).disposition) where
     pub is-complete : d ≡ 4 → eqb (at w 1) 0 ≡ rejection_complete (state_of (opened_of (parts w h b t)) o q)

@@ -4,12 +4,10 @@
 ghost use Rattle.std.specs.Prelude.{◌≡◌, ◌≤◌, length};
 ghost use Rattle.rules.specs.Start.{handoff_size, same_handoff, agrees};
 ghost use Rattle.peer_session.specs.View.{handoff_of, handoff_length};
-ghost use Rattle.starts.specs.Records.{Fitting, Beginning, Begun};
 ghost use Rattle.restores.specs.Restored.{lent_handoff, given_if, RestoredBy};
 ghost use Rattle.restores.specs.Steps.{held_in};
-ghost use Rattle.parts.specs.Parts.{parts, at, handoff_in, opened_of};
+ghost use Rattle.parts.specs.Parts.{parts, at, handoff_in};
 ghost use Rattle.parts.specs.Driven.{Driven};
-ghost use Rattle.link_starts.specs.Steps.{TakingIn, TakenIn};
 ghost use Rattle.link_restores.specs.Handed.{HandedIn};
 ghost use Rattle.link_restores.specs.Restores.{Ready, Enters};
 

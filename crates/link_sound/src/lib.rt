@@ -1,14 +1,14 @@
 // Whether a session that C lends is one that calls leave, looked at where it lies.
 #![tactic(auto)]
 
-ghost use Rattle.std.specs.Prelude.{◌≡◌, ◌+◌, ◌≤◌, length, take, Float};
+ghost use Rattle.std.specs.Prelude.{◌≡◌, ◌+◌, ◌≤◌, take, Float};
 ghost use Rattle.stores.specs.Admitted.{admitted};
 ghost use Rattle.queue.specs.View.{num_q, len_q};
 ghost use Rattle.queue.specs.Sound.{admits_queued, sound_queue};
 ghost use Rattle.peer_session.specs.Sound.{sound_acks, Checked};
 ghost use Rattle.parts.specs.Seats.{seats};
 ghost use Rattle.parts.specs.Parts.{at, queued_at, queue_in, policy_in, waiting_in, retry_in, parts, opened_of};
-ghost use Rattle.link_sound.specs.Sizes.{Sized, admits};
+ghost use Rattle.link_sound.specs.Sizes.{admits};
 
 use parts::{Bytes, Halves, Words};
 

@@ -1,7 +1,7 @@
 // A start on the parts of a session, in place, and the messages of a record: what is written is written where it lies.
 #![tactic(auto)]
 
-ghost use Rattle.std.specs.Prelude.{◌≡◌, ◌∷◌, [], ◌≤◌, length};
+ghost use Rattle.std.specs.Prelude.{◌∷◌, [], ◌≤◌, length};
 ghost use Rattle.starts.specs.Started.{Started};
 ghost use Rattle.starts.specs.Records.{Fitting, Beginning, Begun};
 ghost use Rattle.parts.specs.Parts.{parts, at, opened_of};

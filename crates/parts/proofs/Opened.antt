@@ -1,10 +1,8 @@
 -- The session that the parts are, field by field. Assumes nothing.
-use Prim.Native.Nat.{ℕ, ◌≤◌}
+use Prim.Native.Nat.{ℕ}
 use mathlib.Core.Path.{◌≡◌, refl, ◌∙◌}
 use mathlib.Core.List.{List}
-use native.Mathlib.Omega.{arith}
 use lib.Ieee.{Float}
-use lib.ListN.{length}
 use Rattle.rules.specs.declared.Clock.{Clock}
 use Rattle.rules.specs.declared.Policy.{Policy}
 use Rattle.numbers.specs.declared.Numbers.{Numbers}
@@ -14,11 +12,8 @@ use Rattle.peer_session.specs.declared.Stage.{Stage}
 use Rattle.peer_session.specs.declared.TerminalHandoff.{TerminalHandoff}
 use Rattle.peer_session.specs.declared.RejectBody.{RejectBody}
 use Rattle.peer_session.specs.declared.SessionState.{SessionState}
-use Rattle.peer_session.specs.Sound.{Full}
 use Rattle.parts.specs.Codes.{stage_of}
-use Rattle.parts.specs.Parts.{parts, at, unacked_at, outbox_in, queued_at, queue_in, waiting_in, retry_in, clock_in, codes_in, handoff_in, policy_in, reject_in, opened_of}
-use Rattle.parts.proofs.Seats.{length-seats}
-use Rattle.parts.proofs.Fields.{length-section}
+use Rattle.parts.specs.Parts.{parts, at, outbox_in, queue_in, waiting_in, retry_in, clock_in, codes_in, handoff_in, policy_in, reject_in, opened_of}
 
 -- the session with these fields
 abbrev pub made : Outbox → ℕ → ℕ → Queue → Numbers → Numbers → Clock → Stage → TerminalHandoff → Policy → RejectBody → SessionState
@@ -37,16 +32,3 @@ module _ (w h b : List ℕ) (t : Float) where
       → stage_of (codes_in h b) ≡ g → handoff_in w b ≡ k → policy_in w ≡ p → reject_in w b ≡ j
       → opened_of (parts w h b t) ≡ made o remote released q waiting retry clock g k p j
   opened_as eo er el eq ew et ec eg ek ep ej = opened ∙ cc
-
-  -- arrays of their lengths
-  pub opened_full : 1296 ≤ length w → 4936 ≤ length b → Full (opened_of (parts w h b t))
-  unfolding opened_of
-  opened_full lw lb =
-      record {
-        unacked = length-seats 256 (unacked_at h b);
-        queue = length-seats 256 (queued_at w h b);
-        waiting = length-section 272 512 w (omega arith);
-        retry = length-section 784 512 w (omega arith);
-        handoff = length-section 776 4096 b (omega arith);
-        reject = length-section 4872 64 b (omega arith);
-      }

@@ -1,5 +1,8 @@
 // A session as C lends it: 64-bit words, 32-bit halves, bytes, and the time of the last replay. Each number lies in the part of its width, at the index
 // that is named here; include/link.h and specs/Parts.antt repeat the indices.
+//
+// Each call has two forms, by value and in place (`link_*`): by value is the port that is compared with the Rust, in place is what C links, without a moved
+// array; they share every rule, promise and law. In both a list and its count are two parameters, as events::emit says.
 #![tactic(auto)]
 
 ghost use Rattle.std.specs.Prelude.{◌≡◌};
