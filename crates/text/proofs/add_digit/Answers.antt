@@ -12,11 +12,5 @@ returns-then-base-d c = let is_digit : c.from-d.result ≡ digit_of c.args.b = s
 pub returns-then-d-base : goal.returns-then-d-base
 returns-then-d-base c = let is_digit : c.from-d.result ≡ digit_of c.args.b = search rules in digit_much _ _ _ (is_digit) c.requires c.if-base-d.false (omega arith) c.if-d-base.true
 
-pub overflow_mul-result : goal.overflow_mul-result
-overflow_mul-result c = let room : c.args.n * c.args.base + c.from-d.result ≤ 18446744073709551615 = digit_room _ _ _ c.requires (omega arith) c.if-d-base.false in omega (arith, room)
-
-pub overflow_add-result : goal.overflow_add-result
-overflow_add-result c = let room : c.args.n * c.args.base + c.from-d.result ≤ 18446744073709551615 = digit_room _ _ _ c.requires (omega arith) c.if-d-base.false in omega (arith, room)
-
 pub returns : goal.returns
 returns c = let room : c.args.n * c.args.base + c.from-d.result ≤ 18446744073709551615 = digit_room _ _ _ c.requires (omega arith) c.if-d-base.false in let is_digit : c.from-d.result ≡ digit_of c.args.b = search rules in digit_fits _ _ _ (is_digit) c.if-base-d.false (room)

@@ -24,9 +24,6 @@ none c =
     (YieldsList-from_slice (drop c.args.at c.args.s.now) (rest c.args.s.now c.args.at (search rules)))
     (λ x b q k. search (rules, tests))
 
-pub overflow_add-result : goal.overflow_add-result
-overflow_add-result c = omega (arith, (found_some c.args.b c.args.s.now c.args.at c.requires (some c) c.in-Some.i c.in-Some.is).within)
-
 pub returns-in-Some : goal.returns-in-Some
 returns-in-Some c = found_some _ _ _ c.requires (some c) _ c.in-Some.is
 
