@@ -18,7 +18,11 @@ fn admits(body: u64, bytes: u64, last: u64, sum: u64, number: u64, len: u64, kin
     requires { sum ≤ bytes }
     ensures { result ≡ admits body bytes last sum number len kind }
 {
-    last < number && number <= rules::LAST_REMOTE && kind <= 2 && len <= body && len <= bytes - sum
+    last < number
+        && number <= rules::LAST_REMOTE
+        && kind <= rules::BodyKind::Reject as u8
+        && len <= body
+        && len <= bytes - sum
 }
 
 // Whether the numbers rise from remote on, and each body and all of them are within the policy.
