@@ -1,11 +1,10 @@
 // Sets of numbers in the words of a session, in place: 512 words from index `from` on, rising, with their count at index `at` before them.
 #![tactic(auto)]
 
-ghost use Rattle.std.specs.Prelude.{◌≡◌, true, ◌++◌, ◌∷◌, [], map, ◌+◌, ◌-◌, ◌*◌, ◌≤◌, ◌<◌, length, take, drop};
+ghost use Rattle.std.specs.Prelude.{◌≡◌, true, ◌++◌, ◌∷◌, map, ◌+◌, ◌*◌, ◌≤◌, ◌<◌, length, take, drop};
 ghost use Rattle.std.proofs.Math.Seq.{slice};
 ghost use Rattle.rules.specs.Lists.{itself, has, put, all, rising, kept};
 ghost use Rattle.rules.specs.Acks.{differs_from};
-ghost use Rattle.rules.specs.Commits.{releases_ack};
 ghost use Rattle.rules.specs.Events.{send_ack};
 ghost use Rattle.rules.specs.Sound.{at_most, ascending};
 ghost use Rattle.events.specs.Written.{Listed};
@@ -125,18 +124,6 @@ pub fn take_out(words: &mut Words, from: usize, at: usize, n: u64)
     words[at] = k as u64;
 }
 
-// Lists a number that a commit up to upto releases.
-fn list_one(upto: u64, x: u64, list: &mut [u64], n: usize) -> usize
-    requires { 4 * n + 4 ≤ length list.old }
-    ensures { Listed (map send_ack (kept (releases_ack upto) (x ∷ []))) list.old n list.new result }
-{
-    if x <= upto {
-        events::emit(list, n, EventCode::SendAck as u64, x, 0, 0);
-        return n + 1;
-    }
-    n
-}
-
 // The numbers up to upto are listed by code 9, from event number n on; the later ones stay.
 pub fn release(
     words: &mut Words,
@@ -156,7 +143,7 @@ pub fn release(
         let x = words[from + i];
         words[from + k] = x;
         k += usize::from(upto < x);
-        events = list_one(upto, x, list, events);
+        events = numbers::list_one(upto, x, list, events);
     }
     words[at] = k as u64;
     events

@@ -1,7 +1,7 @@
 // Whether a session that C lends is one that calls leave, looked at where it lies.
 #![tactic(auto)]
 
-ghost use Rattle.std.specs.Prelude.{◌≡◌, ◌+◌, ◌≤◌, take, Float};
+ghost use Rattle.std.specs.Prelude.{◌≡◌, ◌≤◌, take, Float};
 ghost use Rattle.stores.specs.Admitted.{admitted};
 ghost use Rattle.queue.specs.View.{num_q, len_q};
 ghost use Rattle.queue.specs.Sound.{admits_queued, sound_queue};

@@ -127,7 +127,7 @@ pub fn take_out(v: Numbers, n: u64) -> Numbers
 }
 
 // Lists a number that a commit up to upto releases.
-fn list_one(upto: u64, x: u64, list: &mut [u64], n: usize) -> usize
+pub fn list_one(upto: u64, x: u64, list: &mut [u64], n: usize) -> usize
     requires { 4 * n + 4 ≤ length list.old }
     ensures { Listed (map send_ack (kept (releases_ack upto) (x ∷ []))) list.old n list.new result }
 {

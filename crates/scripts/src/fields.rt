@@ -1,5 +1,5 @@
 // The fields of a line, with one space between two of them.
-ghost use Rattle.std.specs.Prelude.{◌≡◌, ◌+◌, ◌<◌, ◌&&◌, Some, None, true, ltb, eqb, length, take, drop, is_some, MatchOption, IfSome, OnSome};
+ghost use Rattle.std.specs.Prelude.{◌≡◌, ◌+◌, ◌<◌, ◌&&◌, Some, None, ltb, eqb, length, take, drop, is_some, MatchOption, IfSome, OnSome};
 ghost use Rattle.rules.specs.Answers.{flag_value};
 ghost use Rattle.text.specs.Fields.{has_word, place_of};
 ghost use Rattle.text.specs.Filled.{Filling};
