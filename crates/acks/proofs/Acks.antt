@@ -60,7 +60,7 @@ unfolding request notify_acknowledged
 chain n t x e = rw (e, append-nil (asked (acknowledge n t).clock))
 
 module _ (n : ℕ) (t : R.State) where
-  spent : 4294966000 ≤ t.clock.generation → step (gets_ack n) t ≡ outcome t (Refused GenerationsExhausted) []
+  pub spent : 4294966000 ≤ t.clock.generation → step (gets_ack n) t ≡ outcome t (Refused GenerationsExhausted) []
   unfolding step receive_ack
   spent h = rw (le-leb 4294966000 t.clock.generation h)
 

@@ -14,7 +14,7 @@ ghost use Rattle.acks.specs.Reports.{Reports, full_of, MayRetry};
 use numbers::Numbers;
 use peer_session::SessionState;
 use rules::{Answer, Clock, EventCode, FrameKind, ReceiveMode, Refusal};
-use session::{Returned, Told};
+use session::{ANY, Returned, Told};
 
 // ---- an ack
 
@@ -158,20 +158,8 @@ pub fn receive_ack(
 ) -> Returned
     ensures { CalledWithStores (gets_ack number) s list.old outbound.old queue.old result list.new outbound.new queue.new }
 {
-    if list.len() < SessionState::EVENT_WORDS {
-        return session::refused(s, Refusal::ShortBuffer);
-    }
-    if outbound.len() < SessionState::OUTBOUND_BYTES {
-        return session::refused(s, Refusal::ShortBuffer);
-    }
-    if queue.len() < SessionState::QUEUE_BYTES {
-        return session::refused(s, Refusal::ShortBuffer);
-    }
-    if !peer_session::sound(s) {
-        return session::refused(s, Refusal::BadRecord);
-    }
-    if SessionState::GENERATION_LIMIT <= s.clock.generation {
-        return session::refused(s, Refusal::GenerationsExhausted);
+    if let Err(x) = session::enters(s, list.len(), ANY, outbound.len(), queue.len(), false, true) {
+        return session::refused(s, x);
     }
     if number < 1 {
         return out_of_range(s, list, queue);
@@ -188,15 +176,9 @@ pub fn receive_ack(
 pub fn receive_keepalive(s: SessionState, list: &mut [u64]) -> Told
     ensures { ToldWithList gets_keepalive s list.old result list.new }
 {
-    if list.len() < SessionState::EVENT_WORDS {
+    if let Err(x) = session::enters(s, list.len(), ANY, ANY, ANY, false, false) {
         return Told {
-            answer: Answer::Refused(Refusal::ShortBuffer),
-            events: 0,
-        };
-    }
-    if !peer_session::sound(s) {
-        return Told {
-            answer: Answer::Refused(Refusal::BadRecord),
+            answer: Answer::Refused(x),
             events: 0,
         };
     }

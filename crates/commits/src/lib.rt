@@ -9,7 +9,7 @@ ghost use Rattle.commits.specs.Releases.{Persists, MayRelease, ReleasesBy, notic
 
 use peer_session::SessionState;
 use rules::{Answer, Clock, EventCode, PreparedCommit, Refusal};
-use session::Returned;
+use session::{ANY, Returned};
 
 // What a commit is to capture: the generation, and the numbers given and delivered last.
 pub fn prepare_commit(s: SessionState) -> Answer
@@ -102,11 +102,8 @@ pub fn complete_commit(
 ) -> Returned
     ensures { CalledWithList (completes commit persisted) s list.old result list.new }
 {
-    if list.len() < SessionState::EVENT_WORDS {
-        return session::refused(s, Refusal::ShortBuffer);
-    }
-    if !peer_session::sound(s) {
-        return session::refused(s, Refusal::BadRecord);
+    if let Err(x) = session::enters(s, list.len(), ANY, ANY, ANY, false, false) {
+        return session::refused(s, x);
     }
     if SessionState::LAST_REMOTE < commit.outbound {
         return session::refused(s, Refusal::CommitNumber);

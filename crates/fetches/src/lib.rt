@@ -6,18 +6,16 @@ ghost use Rattle.fetches.specs.Fetched.{AnsweredWithOutbound, FetchedIf, lies_wi
 ghost use Rattle.rules.specs.Calls.{fetches};
 
 use peer_session::SessionState;
-use rules::{Answer, Refusal};
+use rules::Answer;
+use session::ANY;
 
 // Whether a number is held, and where its body lies.
 pub fn find(s: SessionState, outbound: &[u8], number: u64) -> Answer
     ensures answer { AnsweredWithOutbound (fetches number) s outbound.now result }
     ensures within { lies_within (length outbound.now) result }
 {
-    if outbound.len() < SessionState::OUTBOUND_BYTES {
-        return Answer::Refused(Refusal::ShortBuffer);
-    }
-    if !peer_session::sound(s) {
-        return Answer::Refused(Refusal::BadRecord);
+    if let Err(x) = session::enters(s, ANY, ANY, outbound.len(), ANY, false, false) {
+        return Answer::Refused(x);
     }
     match outbox::locate(s.outbox, number) {
         Some(place) => Answer::Held {

@@ -15,7 +15,7 @@ ghost use Rattle.handoffs.specs.Commands.{lent_command, command_in, command_of, 
 use outbox::Outbox;
 use peer_session::{SessionState, TerminalHandoff};
 use rules::{Refusal, Setup};
-use session::Returned;
+use session::{ANY, Returned};
 
 // The Rust's `TerminalCommand`. Its body lies in a lent buffer.
 #[derive(Clone, Copy)]
@@ -188,17 +188,8 @@ pub fn channel_command(
 ) -> Returned
     ensures { CalledWithOutbound (commands restoring (command_in command.entry)) s list.old outbound.old result list.new outbound.new }
 {
-    if list.len() < SessionState::EVENT_WORDS {
-        return session::refused(s, Refusal::ShortBuffer);
-    }
-    if outbound.len() < SessionState::OUTBOUND_BYTES {
-        return session::refused(s, Refusal::ShortBuffer);
-    }
-    if !peer_session::sound(s) {
-        return session::refused(s, Refusal::BadRecord);
-    }
-    if SessionState::GENERATION_LIMIT <= s.clock.generation {
-        return session::refused(s, Refusal::GenerationsExhausted);
+    if let Err(x) = session::enters(s, list.len(), ANY, outbound.len(), ANY, false, true) {
+        return session::refused(s, x);
     }
     if SessionState::MAX_HANDOFF < size_of(command) {
         return session::refused(s, Refusal::HandoffTooLong);

@@ -14,7 +14,7 @@ use delivery::{Frame, Step, Turn};
 use draining::Ended;
 use peer_session::SessionState;
 use rules::{Answer, BodyKind, EventCode, HostStatus, ReceiveMode, Refusal};
-use session::Returned;
+use session::{ANY, Returned};
 
 // What becomes of data.
 #[derive(Clone, Copy)]
@@ -251,26 +251,16 @@ pub fn receive_data(
 ) -> Returned
     ensures { Called (gets_data status (frame_of number kind body.now)) s (lent list.old delivery.old outbound.old queue.old) result (lent list.new delivery.new outbound.new queue.new) }
 {
-    if list.len() < SessionState::EVENT_WORDS {
-        return session::refused(s, Refusal::ShortBuffer);
-    }
-    if delivery.len() < SessionState::DELIVERY_BYTES {
-        return session::refused(s, Refusal::ShortBuffer);
-    }
-    if outbound.len() < SessionState::OUTBOUND_BYTES {
-        return session::refused(s, Refusal::ShortBuffer);
-    }
-    if queue.len() < SessionState::QUEUE_BYTES {
-        return session::refused(s, Refusal::ShortBuffer);
-    }
-    if 2 < kind {
-        return session::refused(s, Refusal::UnknownCode);
-    }
-    if !peer_session::sound(s) {
-        return session::refused(s, Refusal::BadRecord);
-    }
-    if SessionState::GENERATION_LIMIT <= s.clock.generation {
-        return session::refused(s, Refusal::GenerationsExhausted);
+    if let Err(x) = session::enters(
+        s,
+        list.len(),
+        delivery.len(),
+        outbound.len(),
+        queue.len(),
+        2 < kind,
+        true,
+    ) {
+        return session::refused(s, x);
     }
     let f = Frame {
         number,

@@ -35,7 +35,7 @@ use Rattle.session.proofs.Entry.{Entered, entered, is-short, is_unsound, meets, 
 -- ---- the rule
 
 module _ (b : Bytes) (t : R.State) where
-  spent : 4294966000 ≤ t.clock.generation → step (sends b) t ≡ outcome t (Refused GenerationsExhausted) []
+  pub spent : 4294966000 ≤ t.clock.generation → step (sends b) t ≡ outcome t (Refused GenerationsExhausted) []
   unfolding step send
   spent h = rw (le-leb 4294966000 t.clock.generation h)
 

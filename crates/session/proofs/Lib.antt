@@ -2,6 +2,7 @@
 pub mod Promises
 pub mod Lengths
 pub mod Entry
+pub mod Entries
 pub mod Queries
 pub mod WithList
 pub mod Clocks

@@ -1,2 +1,3 @@
 -- The promises of the exported calls.
 pub mod Promise
+pub mod Entry

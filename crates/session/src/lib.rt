@@ -2,13 +2,14 @@
 // asks anything of its caller.
 #![tactic(auto)]
 
-ghost use Rattle.std.specs.Prelude.{◌≡◌};
+ghost use Rattle.std.specs.Prelude.{◌≡◌, IfOk};
 ghost use Rattle.rules.specs.Clock.{dirty};
 ghost use Rattle.rules.specs.Lists.{Bytes};
 ghost use Rattle.rules.specs.Queries.{accepted, is_retired};
 ghost use Rattle.rules.specs.Setup.{rejection_complete};
 ghost use Rattle.peer_session.specs.View.{state_of};
 ghost use Rattle.session.specs.Promise.{Turned, terms_in_session};
+ghost use Rattle.session.specs.Entry.{Enters, Admitted};
 
 use peer_session::SessionState;
 use rules::{Answer, Disposition, Refusal, Setup, Terms};
@@ -37,6 +38,41 @@ pub fn refused(s: SessionState, x: Refusal) -> Returned
         answer: Answer::Refused(x),
         events: 0,
     }
+}
+
+// The length of a buffer that a call does not take.
+pub const ANY: usize = usize::MAX;
+
+// The tests at a call's entry, in their order: the lengths of its buffers, whether a code is outside its list, the session, and, of a call that may
+// raise the generation, whether it can.
+pub fn enters(
+    s: SessionState,
+    list: usize,
+    delivery: usize,
+    outbound: usize,
+    queue: usize,
+    wrong: bool,
+    raises: bool,
+) -> Result<(), Refusal>
+    ensures tested { Enters s list delivery outbound queue wrong raises result }
+    ensures passed { IfOk result (λ u. Admitted s list delivery outbound queue wrong raises) }
+{
+    if list < SessionState::EVENT_WORDS || delivery < SessionState::DELIVERY_BYTES {
+        return Err(Refusal::ShortBuffer);
+    }
+    if outbound < SessionState::OUTBOUND_BYTES || queue < SessionState::QUEUE_BYTES {
+        return Err(Refusal::ShortBuffer);
+    }
+    if wrong {
+        return Err(Refusal::UnknownCode);
+    }
+    if !peer_session::sound(s) {
+        return Err(Refusal::BadRecord);
+    }
+    if raises && SessionState::GENERATION_LIMIT <= s.clock.generation {
+        return Err(Refusal::GenerationsExhausted);
+    }
+    Ok(())
 }
 
 // ---- queries, of any session, whatever its stores hold

@@ -11,7 +11,7 @@ ghost use Rattle.setup.specs.Steps.{Ready, Joins, Asks, staged, waiting_in, Come
 
 use peer_session::SessionState;
 use rules::{Answer, Disposition, Refusal, Setup, Terms};
-use session::Returned;
+use session::{ANY, Returned};
 
 // ---- steps
 
@@ -92,14 +92,8 @@ fn propose(s: SessionState, outbound: &mut [u8], terms: Terms, body: &[u8]) -> R
 pub fn accept_session(s: SessionState, outbound: &mut [u8], terms: Terms, body: &[u8]) -> Returned
     ensures { CalledWithOutboundAlone (accepts terms body.now) s outbound.old result outbound.new }
 {
-    if outbound.len() < SessionState::OUTBOUND_BYTES {
-        return session::refused(s, Refusal::ShortBuffer);
-    }
-    if !peer_session::sound(s) {
-        return session::refused(s, Refusal::BadRecord);
-    }
-    if SessionState::GENERATION_LIMIT <= s.clock.generation {
-        return session::refused(s, Refusal::GenerationsExhausted);
+    if let Err(x) = session::enters(s, ANY, ANY, outbound.len(), ANY, false, true) {
+        return session::refused(s, x);
     }
     if !no_setup(s.stage.setup) {
         return session::refused(s, Refusal::AlreadyAccepted);
@@ -137,17 +131,8 @@ fn send_reject(s: SessionState, list: &mut [u64], outbound: &mut [u8]) -> Return
 pub fn reject_session(s: SessionState, list: &mut [u64], outbound: &mut [u8]) -> Returned
     ensures { CalledWithOutbound rejects s list.old outbound.old result list.new outbound.new }
 {
-    if list.len() < SessionState::EVENT_WORDS {
-        return session::refused(s, Refusal::ShortBuffer);
-    }
-    if outbound.len() < SessionState::OUTBOUND_BYTES {
-        return session::refused(s, Refusal::ShortBuffer);
-    }
-    if !peer_session::sound(s) {
-        return session::refused(s, Refusal::BadRecord);
-    }
-    if SessionState::GENERATION_LIMIT <= s.clock.generation {
-        return session::refused(s, Refusal::GenerationsExhausted);
+    if let Err(x) = session::enters(s, list.len(), ANY, outbound.len(), ANY, false, true) {
+        return session::refused(s, x);
     }
     send_reject(s, list, outbound)
 }
@@ -221,14 +206,8 @@ fn retains(retain: bool, disposition: u8) -> bool
 pub fn retire(s: SessionState, outbound: &mut [u8], queue: &mut [u8], retain: bool) -> Returned
     ensures { CalledWithStoresAlone (retires retain) s outbound.old queue.old result outbound.new queue.new }
 {
-    if outbound.len() < SessionState::OUTBOUND_BYTES {
-        return session::refused(s, Refusal::ShortBuffer);
-    }
-    if queue.len() < SessionState::QUEUE_BYTES {
-        return session::refused(s, Refusal::ShortBuffer);
-    }
-    if !peer_session::sound(s) {
-        return session::refused(s, Refusal::BadRecord);
+    if let Err(x) = session::enters(s, ANY, ANY, outbound.len(), queue.len(), false, false) {
+        return session::refused(s, x);
     }
     let r = retired(s, queue);
     if retains(retain, s.stage.disposition) {

@@ -1,25 +1,21 @@
+use mathlib.Core.Path.{refl}
+use Rattle.rules.specs.Calls.{sends}
+use Rattle.rules.specs.Buffers.{taken_by, short, wrong_code, queue_reach}
 use Rattle.peer_session.proofs.View.{parts}
-use mathlib.Core.Path.{sym, ◌∙◌}
-use Rattle.sending.proofs.Sends.{list-short, outbound-short, unsound, exhausted, refused, went}
+use Rattle.session.specs.Promise.{lent}
+use Rattle.session.proofs.Entries.{stops}
+use Rattle.sending.proofs.Sends.{spent, refused, went}
 use Rattle.sending.proofs.send_message.Goals as goal
 
-pub returns-then-list-lt-EVENT_WORDS : goal.returns-then-list-lt-EVENT_WORDS
-returns-then-list-lt-EVENT_WORDS c = λ d q lq. list-short c.args.s c.args.list.now c.args.outbound.now c.args.body.now d q c.refused.ensures c.if-list-lt-EVENT_WORDS.true
-
-pub returns-then-outbound-lt-OUTBOUND_BYTES : goal.returns-then-outbound-lt-OUTBOUND_BYTES
-returns-then-outbound-lt-OUTBOUND_BYTES c = λ d q lq. outbound-short c.args.s c.args.list.now c.args.outbound.now c.args.body.now d q c.refused-then-outbound-lt-OUTBOUND_BYTES.ensures c.if-outbound-lt-OUTBOUND_BYTES.true
-
-pub returns-then-not-sound : goal.returns-then-not-sound
-returns-then-not-sound c = λ d q lq. unsound c.args.s c.args.list.now c.args.outbound.now c.args.body.now d q c.if-list-lt-EVENT_WORDS.false c.if-outbound-lt-OUTBOUND_BYTES.false c.refused-then-not-sound.ensures (sym c.sound.ensures.is ∙ c.if-not-sound.true)
-
-pub returns-then-s-ge-GENERATION_LIMIT : goal.returns-then-s-ge-GENERATION_LIMIT
-returns-then-s-ge-GENERATION_LIMIT c = λ d q lq. exhausted c.args.s c.args.list.now c.args.outbound.now c.args.body.now d q c.if-list-lt-EVENT_WORDS.false c.if-outbound-lt-OUTBOUND_BYTES.false (sym c.sound.ensures.is ∙ c.if-not-sound.false) c.sound.ensures.full lq c.refused-then-s-ge-GENERATION_LIMIT.ensures c.if-s-ge-GENERATION_LIMIT.true
+pub returns-in-Err : goal.returns-in-Err
+unfolding taken_by short wrong_code queue_reach
+returns-in-Err c = λ d q lq. stops (sends c.args.body.now) c.args.s (lent c.args.list.now d c.args.outbound.now q) c.enters.ensures.tested c.in-Err.is c.refused.ensures refl refl (λ h. h) (λ h. lq) (λ e k t h. (spent c.args.body.now t h, refl))
 
 pub allocate-requires : goal.allocate-requires
-allocate-requires c = (parts c.args.s (sym c.sound.ensures.is ∙ c.if-not-sound.false) c.sound.ensures.full).unacked c.args.outbound.now c.if-outbound-lt-OUTBOUND_BYTES.false
+allocate-requires c = (parts c.args.s c.in_default.ensures.passed.sound c.in_default.ensures.passed.full).unacked c.args.outbound.now c.in_default.ensures.passed.outbound
 
 pub returns-in-Ok : goal.returns-in-Ok
-returns-in-Ok c = λ d q lq. went c.args.s c.args.list.now c.args.outbound.now c.args.body.now d q c.if-list-lt-EVENT_WORDS.false c.if-outbound-lt-OUTBOUND_BYTES.false (sym c.sound.ensures.is ∙ c.if-not-sound.false) c.sound.ensures.full lq c.if-s-ge-GENERATION_LIMIT.false c.in-Ok.ensures c.request-n.ensures
+returns-in-Ok c = λ d q lq. went c.args.s c.args.list.now c.args.outbound.now c.args.body.now d q c.in_default.ensures.passed.list c.in_default.ensures.passed.outbound c.in_default.ensures.passed.sound c.in_default.ensures.passed.full lq (c.in_default.ensures.passed.low refl) c.in-Ok.ensures c.request-n.ensures
 
-pub returns-in-Err : goal.returns-in-Err
-returns-in-Err c = λ d q lq. refused c.args.s c.args.list.now c.args.outbound.now c.args.body.now d q c.if-list-lt-EVENT_WORDS.false c.if-outbound-lt-OUTBOUND_BYTES.false (sym c.sound.ensures.is ∙ c.if-not-sound.false) c.sound.ensures.full lq c.if-s-ge-GENERATION_LIMIT.false c.in-Err.ensures c.refused-in-Err.ensures
+pub returns-in-Err-allocate : goal.returns-in-Err-allocate
+returns-in-Err-allocate c = λ d q lq. refused c.args.s c.args.list.now c.args.outbound.now c.args.body.now d q c.in_default.ensures.passed.list c.in_default.ensures.passed.outbound c.in_default.ensures.passed.sound c.in_default.ensures.passed.full lq (c.in_default.ensures.passed.low refl) c.in-Err-allocate.ensures c.refused-in-Err-allocate.ensures
