@@ -4,13 +4,7 @@ use Rattle.parts.specs.Parts.{parts}
 use Rattle.link_commits.proofs.Completes.{found-ready, turned}
 use Rattle.link_commits.proofs.complete.Goals as goal
 
-pub finish-requires : goal.finish-requires
-finish-requires c =
-    found-ready (parts c.args.words.now c.args.halves.now c.args.bytes.now c.args.clock.now) (length c.args.list.now) c.args.commit c.enters-stop.result c.in-Ok.is (c.enters-stop.ensures c.args.clock.now)
-
 pub returns-in-Err : goal.returns-in-Err
 returns-in-Err c =
     turned (parts c.args.words.now c.args.halves.now c.args.bytes.now c.args.clock.now) c.args.list.now c.args.commit c.args.persisted c.enters-stop.result _ c.in-Err.is (c.enters-stop.ensures c.args.clock.now) c.refusal.ensures
 
-pub returns-in-Ok : goal.returns-in-Ok
-returns-in-Ok c = c.finish.ensures

@@ -20,13 +20,3 @@ returns-then-commit-gt-LAST_REMOTE c = let is-sound : (t : Float) → sound_of (
 pub returns-then-commit-gt-LAST_REMOTE-2 : goal.returns-then-commit-gt-LAST_REMOTE-2
 returns-then-commit-gt-LAST_REMOTE-2 c = let is-sound : (t : Float) → sound_of (opened_of (parts c.args.words.now c.args.halves.now c.args.bytes.now t)) ≡ true = λ t. sym (c.sound.ensures t).is ∙ c.if-not-sound.false in λ t. remote-past (parts c.args.words.now c.args.halves.now c.args.bytes.now t) c.args.commit c.if-list-lt-EVENT_WORDS.false (is-sound t) (c.sound.ensures t).full c.if-commit-gt-LAST_REMOTE.false c.if-commit-gt-LAST_REMOTE-2.true
 
-pub returns : goal.returns
-returns c = let is-sound : (t : Float) → sound_of (opened_of (parts c.args.words.now c.args.halves.now c.args.bytes.now t)) ≡ true = λ t. sym (c.sound.ensures t).is ∙ c.if-not-sound.false in
-    λ t. record {
-      sound = is-sound t;
-      full = (c.sound.ensures t).full;
-      halves = omega arith;
-      list = c.if-list-lt-EVENT_WORDS.false;
-      outbound = c.if-commit-gt-LAST_REMOTE.false;
-      remote = c.if-commit-gt-LAST_REMOTE-2.false;
-    }

@@ -12,9 +12,6 @@ returns-then-queue-lt-QUEUE_BYTES c = short-queue c.args.retain _ c.args.outboun
 pub returns-then-not-sound : goal.returns-then-not-sound
 returns-then-not-sound c = unsound c.args.retain _ c.args.outbound.now c.args.queue.now c.if-outbound-lt-OUTBOUND_BYTES.false c.if-queue-lt-QUEUE_BYTES.false (sym (c.sound.ensures c.args.clock.now).is ∙ c.if-not-sound.true) c.refusal-then-not-sound.ensures
 
-pub retired-requires : goal.retired-requires
-retired-requires c = record { checked = λ t. found-sound (c.sound.ensures t) (c.if-not-sound.false); room = c.if-queue-lt-QUEUE_BYTES.false }
-
 pub returns-then-kept : goal.returns-then-kept
 returns-then-kept c = keeps c.args.retain c.args.words.now c.args.halves.now c.args.bytes.now c.args.clock.now c.args.outbound.now c.args.queue.now c.if-outbound-lt-OUTBOUND_BYTES.false c.if-queue-lt-QUEUE_BYTES.false (found-sound (c.sound.ensures c.args.clock.now) (c.if-not-sound.false)) c.retired.ensures c.retains-kept.ensures c.if-kept.true c.flag.ensures
 

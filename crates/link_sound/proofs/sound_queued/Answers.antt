@@ -10,17 +10,11 @@ use Rattle.parts.specs.Parts.{at, policy_in, queued_at}
 use Rattle.link_sound.proofs.Sounds.{frames-on, frames_not, frame_tested, frame-room}
 use Rattle.link_sound.proofs.sound_queued.Goals as goal
 
-pub loop-i-init : goal.loop-i-init
-loop-i-init c = (c.requires.0, c.requires.1, omega arith, omega arith, refl)
-
 pub returns-then-not-admits : goal.returns-then-not-admits
 returns-then-not-admits c =
     let a = c.args in
     sym (frames_not a.words.now a.halves.now a.bytes.now c.loop-i.i a.count (omega arith) (omega arith) c.loop-i.last c.loop-i.sum
     (frame_tested a.words.now a.halves.now a.bytes.now c.loop-i.i c.loop-i.last c.loop-i.sum c.from-len.ensures c.admits.ensures ∙ c.if-not-admits.true)) ∙ c.loop-i.invariant.4
-
-pub overflow_add-sum : goal.overflow_add-sum
-overflow_add-sum c = let tested : let a = c.args in admits_queued (policy_in a.words.now) c.loop-i.last c.loop-i.sum (queued_at a.words.now a.halves.now a.bytes.now c.loop-i.i) ≡ true = let a = c.args in frame_tested a.words.now a.halves.now a.bytes.now c.loop-i.i c.loop-i.last c.loop-i.sum c.from-len.ensures c.admits.ensures ∙ c.if-not-admits.false in let room : let a = c.args in at a.halves.now (512 + c.loop-i.i) ≤ at a.words.now 12 - c.loop-i.sum = let a = c.args in frame-room a.words.now a.halves.now a.bytes.now c.loop-i.i c.loop-i.last c.loop-i.sum (tested) in omega (arith, room, c.from-len.ensures)
 
 pub loop-i-preserved : goal.loop-i-preserved
 loop-i-preserved c = let tested : let a = c.args in admits_queued (policy_in a.words.now) c.loop-i.last c.loop-i.sum (queued_at a.words.now a.halves.now a.bytes.now c.loop-i.i) ≡ true = let a = c.args in frame_tested a.words.now a.halves.now a.bytes.now c.loop-i.i c.loop-i.last c.loop-i.sum c.from-len.ensures c.admits.ensures ∙ c.if-not-admits.false in let room : let a = c.args in at a.halves.now (512 + c.loop-i.i) ≤ at a.words.now 12 - c.loop-i.sum = let a = c.args in frame-room a.words.now a.halves.now a.bytes.now c.loop-i.i c.loop-i.last c.loop-i.sum (tested) in
