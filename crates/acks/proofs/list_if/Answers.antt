@@ -1,4 +1,4 @@
-use Rattle.acks.proofs.Steps.{goes-listed, goes_not}
+use Rattle.acks.proofs.Steps.{goes_not}
 use Rattle.acks.proofs.list_if.Goals as goal
 
 pub returns : goal.returns

@@ -1,5 +1,5 @@
 use native.Mathlib.Omega.{arith}
-use Rattle.acks.proofs.Steps.{one_more, notices-listed}
+use Rattle.acks.proofs.Steps.{notices-listed}
 use Rattle.acks.proofs.notify_acknowledged.Goals as goal
 
 pub returns : goal.returns
