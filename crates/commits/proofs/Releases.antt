@@ -4,7 +4,6 @@ use mathlib.Core.Bool.{Bool, true, false}
 use mathlib.Core.List.{List, [], ◌∷◌, map}
 use Prim.Native.Nat.{ℕ, ◌+◌, ◌*◌, ◌≤◌, ◌<◌, max}
 use native.Mathlib.Omega.{arith}
-use native.Mathlib.Nat.{le_of_lt, max-eq_left, max-eq_right}
 use lib.ListN.{length}
 use borrow.Author.Tests.{le-leb, lt-leb}
 use Rattle.stores.specs.Placed.{placed}
@@ -39,15 +38,6 @@ module _ (c : PreparedCommit) (x : Clock) where
       rw e
       (ap (λ (k : ℕ). clock_is (clock-at k x) t) m
       ∙ ap (λ (y : Clock). clock_is (clock-at (max y.persisted c.generation) y) t) (sym f))
-
-  pub not_persisted : (b : Bool) → b ≡ false → Persists b c x x
-  not_persisted b e t f = rw e (ap (λ (y : Clock). clock_is y t) (sym f))
-
-  pub persisted_before : (b : Bool) → b ≡ true → c.generation ≤ x.persisted → Persists b c x x
-  persisted_before b e h = raised b x.persisted e (sym (max-eq_left h))
-
-  pub persisted_now : (b : Bool) → b ≡ true → x.persisted < c.generation → Persists b c x (clock-at c.generation x)
-  persisted_now b e h = raised b c.generation e (sym (max-eq_right (le_of_lt h)))
 
 -- ---- released
 

@@ -12,7 +12,6 @@ use Rattle.stores.proofs.Packs.{slice-step, opened}
 use Rattle.stores.proofs.Seats.{Seated, seated}
 use Rattle.rules.specs.Lists.{itself, rising, put}
 use Rattle.rules.specs.Sound.{ascending}
-use Rattle.rules.proofs.Lists as Lists
 use Rattle.numbers.specs.declared.Numbers.{Numbers}
 use Rattle.numbers.specs.Seats.{in_use, seat_of, ExactNumbers, Holds}
 
@@ -76,10 +75,6 @@ module _ (v : Numbers) (n k : ℕ) (few : v.count ≤ 512) (full : length v.valu
 
     pub put-new : (r : Numbers) → Holds (take k (in_use v) ++ (n ∷ drop k (in_use v))) r → Holds (put itself n (in_use v)) r
     put-new r p = rw put_is p
-
--- how many numbers there are then: one more at most, and no more where the number is there
-pub put-length : (n : ℕ) (ns : List ℕ) → length (put itself n ns) ≤ suc (length ns)
-put-length n ns = Lists.put-length itself n ns
 
 -- ---- a set that ascends
 

@@ -1,7 +1,7 @@
 -- Loops over the numbers in use: some are dropped, some are listed. Assumes nothing.
 use Rattle.std.specs.Prelude.{if◌then◌else◌}
 use mathlib.Core.Path.{◌≡◌, refl, sym, ap, ◌∙◌, subst}
-use mathlib.Core.Bool.{Bool, true, false, not}
+use mathlib.Core.Bool.{Bool, true, false}
 use mathlib.Core.List.{List, [], ◌∷◌, ◌++◌, map}
 use Prim.Native.Nat.{ℕ, ◌+◌, ◌*◌, ◌≤◌, ◌<◌}
 use native.Mathlib.Omega.{arith}
@@ -9,14 +9,13 @@ use native.Mathlib.Numerals.{add-one}
 use lib.ListN.{length, take, get_or, set}
 use lib.Seq.{take-suc}
 use lib.Dec.{ltb, leb}
-use borrow.Author.Tests.{eq-eqb, ne_eqb, le-leb, lt-leb}
+use borrow.Author.Tests.{le-leb, lt-leb}
 use Rattle.stores.specs.Placed.{placed}
 use Rattle.stores.proofs.Packs.{map-append}
 use Rattle.stores.proofs.Sifts.{Sifted, sifted_none, sifted_at, sifted_more, sifted_all, kept_next}
 use Rattle.rules.specs.Lists.{kept}
 use Rattle.rules.specs.Events.{Event, send_ack, listed}
 use Rattle.rules.specs.Buffers.{flat}
-use Rattle.rules.specs.Acks.{differs_from}
 use Rattle.rules.specs.Commits.{releases_ack}
 use Rattle.events.specs.Written.{Listed}
 use Rattle.events.proofs.Laws.{listed-none, listed_then}
@@ -30,12 +29,6 @@ pub sifted_holds : (p : ℕ → Bool) (v : Numbers) (l : List ℕ) (i k : ℕ) �
 sifted_holds p v l i k full few s h =
     let a = sifted_all s h in
     record { count = a.1; held = a.0; exact = record { full = s.same ∙ full; few = omega (arith, a.2) } }
-
-pub step_same : (n x : ℕ) → n ≡ x → 0 ≡ step (differs_from n x)
-step_same n x e = ap (λ (t : Bool). step (not t)) (sym (eq-eqb n x e))
-
-pub step_other : (n x : ℕ) → (n ≡ x → ⊥) → 1 ≡ step (differs_from n x)
-step_other n x e = ap (λ (t : Bool). step (not t)) (sym (ne_eqb n x e))
 
 -- ---- what is listed
 

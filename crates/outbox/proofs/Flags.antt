@@ -1,13 +1,12 @@
 -- Flags of records are changed, and their numbers and bodies are not. Assumes nothing.
 use Rattle.std.specs.Prelude.{if◌then◌else◌}
 use mathlib.Core.Path.{◌≡◌, refl, sym, ap, ◌∙◌}
-use mathlib.Core.Bool.{Bool, true, false, ◌||◌}
+use mathlib.Core.Bool.{Bool, true, false}
 use mathlib.Core.List.{List, [], ◌∷◌, map}
 use Prim.Native.Nat.{ℕ, ◌+◌, ◌≤◌, ◌<◌}
 use native.Mathlib.Omega.{arith}
 use lib.ListN.{length, take, drop, get_or, set}
 use lib.Dec.{eqb}
-use borrow.Author.Tests.{lt-ltb, le-ltb}
 use Rattle.stores.specs.Packed.{cut}
 use Rattle.stores.proofs.Runs.{Mapped, mapped_none, mapped_later, mapped_more, mapped_all}
 use Rattle.rules.specs.Lists.{Bytes, total}
@@ -17,7 +16,7 @@ use Rattle.rules.specs.Commits.{release}
 use Rattle.outbox.specs.declared.Unacked.{Unacked}
 use Rattle.outbox.specs.declared.Outbox.{Outbox}
 use Rattle.outbox.specs.View.{len_u, unacked, used_u, unacked_of, end_u, blank_u}
-use Rattle.outbox.specs.Records.{survives_u, release_u, releases_u, sent_u}
+use Rattle.outbox.specs.Records.{release_u, releases_u, sent_u}
 use Rattle.outbox.specs.Steps.{Flagged}
 
 -- f on messages is g on records: whatever the body, and it keeps the length
@@ -105,15 +104,3 @@ module _ {f : R.Unacked → R.Unacked} {g : Unacked → Unacked} (F : Flags f g)
         exact = λ size e. record { full = full; few = omega (arith, m.count, m.few); small = omega (arith, e.small); room = e.room };
         unacked = λ o k. ap (λ (l : List Unacked). cut len_u unacked l o) us ∙ cut-flags (used_u x) o;
       }
-
--- ---- the tests and changes, as code makes them
-
-module _ (n : ℕ) (u : Unacked) where
-  pub survives-above : n < u.number → survives_u n u ≡ true
-  survives-above h = ap (λ (t : Bool). t || u.pending || u.unsent) (lt-ltb n u.number h)
-
-  pub survives-pending : u.number ≤ n → u.pending ≡ true → survives_u n u ≡ true
-  survives-pending h e = ap (λ (t : Bool). t || u.pending || u.unsent) (le-ltb n u.number h) ∙ ap (λ (t : Bool). t || u.unsent) e
-
-  pub survives-unsent : u.number ≤ n → u.pending ≡ false → survives_u n u ≡ u.unsent
-  survives-unsent h e = ap (λ (t : Bool). t || u.pending || u.unsent) (le-ltb n u.number h) ∙ ap (λ (t : Bool). t || u.unsent) e

@@ -13,7 +13,7 @@ use Rattle.stores.proofs.Packs.{Packing, cut-packed, map-cut, length_cut, packed
 use Rattle.rules.specs.Lists.{Bytes, all, total, packed, rising}
 use Rattle.rules.specs.State as R
 use Rattle.rules.specs.State.{number_of, size_of, body_of}
-use Rattle.rules.specs.Sound.{number_below, sound_outbox}
+use Rattle.rules.specs.Sound.{number_below}
 use Rattle.rules.proofs.Lists.{and_both}
 use Rattle.rules.proofs.Outboxes as Out
 use Rattle.outbox.specs.declared.Unacked.{Unacked}
@@ -139,10 +139,6 @@ sound-outbox-good x o e full room =
       exact,
     )
 
--- the rule book's own test of the view
-pub sound-outbox-view : (x : Outbox) (o : Bytes) → sound_outbox_of x ≡ true → length x.records ≡ 256 → 65536 ≤ length o → sound_outbox (outbox_of x o) ≡ true
-sound-outbox-view x o e full room = Out.sound (outbox_of x o) (sound-outbox-good x o e full room).0
-
 -- and back: an exact outbox whose view is good is sound
 pub good-sound-outbox : (x : Outbox) (o : Bytes) → ExactOutbox x (length o) → Out.Good (outbox_of x o) → sound_outbox_of x ≡ true
 unfolding unacked_of
@@ -156,6 +152,3 @@ good-sound-outbox x o exact g =
       below = sym (below-cut x.next (used_u x) o) ∙ g.below;
       small = exact.small;
     })
-
-pub view-sound-outbox : (x : Outbox) (o : Bytes) → ExactOutbox x (length o) → sound_outbox (outbox_of x o) ≡ true → sound_outbox_of x ≡ true
-view-sound-outbox x o exact e = good-sound-outbox x o exact (Out.good (outbox_of x o) e)

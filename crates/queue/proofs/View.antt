@@ -5,18 +5,17 @@ use mathlib.Core.List.{List, ◌∷◌, ◌++◌, map}
 use Prim.Native.Nat.{ℕ, ◌-◌, ◌≤◌, max}
 use native.Mathlib.Omega.{arith}
 use lib.ListN.{length, take, drop, replicate}
-use lib.Seq.{length-take-le, drop_at}
+use lib.Seq.{length-take-le}
 use Rattle.stores.specs.Packed.{cut}
 use Rattle.rules.specs.Buffers.{repacked}
 use Rattle.stores.specs.Fronts.{front}
-use Rattle.stores.proofs.Packs.{Packing, cut-packed, map-cut, length_cut, packed-cut, length-packed, length-repacked, repacked_tail}
+use Rattle.stores.proofs.Packs.{Packing, cut-packed, map-cut, length_cut, packed-cut, length-packed, length-repacked}
 use Rattle.stores.proofs.Cuts.{any-cut, front_cut}
 use Rattle.stores.proofs.Seats as Seats
 use Rattle.rules.specs.Lists.{Bytes, any, kept, put, total, packed, rising}
 use Rattle.rules.specs.State as R
 use Rattle.rules.specs.State.{frame_number, frame_body, frame_size, is_frame}
 use Rattle.rules.specs.Receiving.{above, up_to}
-use Rattle.rules.specs.Buffers.{filled}
 use Rattle.rules.proofs.Lists as Lists
 use Rattle.queue.specs.declared.Queued.{Queued}
 use Rattle.queue.specs.declared.Queue.{Queue}
@@ -75,25 +74,6 @@ repacked-is x q fs r q' e full few records small bytes =
 
 pub repacked_as : {x : Queue} {q : Bytes} {fs gs : List R.Frame} {r : Queue} {q' : Bytes} → fs ≡ gs → Repacked x q fs r q' → Repacked x q gs r q'
 repacked_as {x} {q} {fs} {gs} {r} {q'} e h = subst (λ (hs : List R.Frame). Repacked x q hs r q') e h
-
--- a store that holds the bodies and 0 past them holds them so afterwards
-pub refilled : (x : Queue) (q : Bytes) (fs : List R.Frame) (r : Queue) (q' : Bytes) → ExactQueue x (length q)
-    → q ≡ filled (length q) (packed frame_body (frames_of x q)) → Repacked x q fs r q' → q' ≡ filled (length q') (packed frame_body fs)
-unfolding repacked
-refilled x q fs r q' e z h =
-    let b : Bytes = packed frame_body fs in
-    let size : length (packed frame_body (frames_of x q)) ≡ end_q x = ap length (frames-bytes x q e) ∙ length-take-le (end_q x) q (omega (arith, e.small, e.room)) in
-    let zeros : drop (end_q x) q ≡ replicate (length q - end_q x) 0 =
-    ap (drop (end_q x)) z
-    ∙ drop_at (packed frame_body (frames_of x q)) (replicate (length q - length (packed frame_body (frames_of x q))) 0) (end_q x) size
-    ∙ ap (λ (k : ℕ). replicate (length q - k) 0) size in
-    let same : packed frame_body (frames_of r q') ≡ b = ap (packed frame_body) h.frames in
-    let small : length b ≤ 32768 =
-    omega (arith, ap length (sym same ∙ frames-bytes r q' h.exact), length-take-le (end_q r) q' (omega (arith, h.exact.small, h.exact.room)), h.exact.small) in
-    let tail : replicate (end_q x - length b) 0 ++ drop (max (end_q x) (length b)) q ≡ replicate (length q - length b) 0 =
-    sym (drop_at b (replicate (end_q x - length b) 0 ++ drop (max (end_q x) (length b)) q) (length b) refl)
-    ∙ repacked_tail (end_q x) b q (omega (arith, e.small, e.room)) (omega (arith, e.room)) zeros in
-    h.bytes ∙ ap (λ (l : Bytes). b ++ l) tail ∙ ap (λ (k : ℕ). b ++ replicate (k - length b) 0) (sym h.size)
 
 -- ---- what is asked of the frames is in the records
 

@@ -31,9 +31,6 @@ use Rattle.session.proofs.Clocks.{clocked, exact_clocked}
 use Rattle.session.proofs.WithList as W
 use Rattle.session.proofs.WithList.{list_wrong, list_unsound, list-answers, list_meets}
 
-pub not_forced : (f a b : Bool) → f ≡ false → a ≡ b → a ≡ (not f && b)
-not_forced f a b e h = rw e h
-
 module _ (e : ℕ) (time : Float) (f : Bool) where
   -- the clock of a replay
   abbrev timed : Clock → Clock

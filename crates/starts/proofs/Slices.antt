@@ -23,9 +23,6 @@ pub record Counted (ks : List ℕ) (n limit left i : ℕ) : Type 0 where
   pub within : i ≤ n
   pub ends : limit + total itself (slice i n ks) ≡ left + total itself (take n ks)
 
-pub counted_none : (ks : List ℕ) (n limit : ℕ) → n ≤ length ks → Counted ks n limit limit 0
-counted_none ks n limit h = record { enough = h; within = omega arith; ends = refl }
-
 module _ {ks : List ℕ} {n limit left i : ℕ} (c : Counted ks n limit left i) where
   pub counted_more : i < n → get_or ks i 0 ≤ left → Counted ks n limit (left - get_or ks i 0) (i + 1)
   counted_more h k =

@@ -2,8 +2,8 @@
 use mathlib.Core.Path.{◌≡◌, ap, ◌∙◌}
 use mathlib.Core.Bool.{Bool, true, false, ◌&&◌}
 use Prim.Native.Nat.{ℕ, ◌≤◌, ◌<◌}
-use lib.Dec.{leb, ltb}
-use borrow.Author.Tests.{le-leb, lt-leb, lt-ltb, le-ltb}
+use lib.Dec.{leb}
+use borrow.Author.Tests.{le-leb, lt-leb}
 use Rattle.rules.proofs.Lists.{and_left, and_right}
 
 pub is_skip : (x t r : Bool) → x ≡ true → t ≡ r → (x && t) ≡ r
@@ -17,12 +17,6 @@ le_skip a b t r h e = is_skip (leb a b) t r (le-leb a b h) e
 
 pub le_stop : (a b : ℕ) (t : Bool) → b < a → (leb a b && t) ≡ false
 le_stop a b t h = is_stop (leb a b) t (lt-leb a b h)
-
-pub lt_skip : (a b : ℕ) (t r : Bool) → a < b → t ≡ r → (ltb a b && t) ≡ r
-lt_skip a b t r h e = is_skip (ltb a b) t r (lt-ltb a b h) e
-
-pub lt_stop : (a b : ℕ) (t : Bool) → b ≤ a → (ltb a b && t) ≡ false
-lt_stop a b t h = is_stop (ltb a b) t (le-ltb a b h)
 
 -- the other way: what a chain that is true says of its first test and of the rest
 pub two : (a b : Bool) → (a && b) ≡ true → (a ≡ true) × (b ≡ true)

@@ -12,7 +12,7 @@ use Rattle.rules.proofs.Lists.{total-append}
 use Rattle.stores.specs.Packed.{cut}
 use Rattle.rules.specs.Buffers.{repacked}
 use Rattle.stores.specs.Placed.{placed}
-use Rattle.stores.proofs.Laws.{length-placed, take_placed_le, take-placed-end, drop-placed}
+use Rattle.stores.proofs.Laws.{length-placed, take_placed_le, drop-placed}
 
 module _ {A : Type 0} (size : A → ℕ) where
   pub total_snoc : (us : List A) (u : A) → total size (us ++ (u ∷ [])) ≡ total size us + size u
@@ -210,18 +210,6 @@ module _ {A : Type 0} (l : List A) (k n : ℕ) where
       ∙ take_at (take k l ++ (u ∷ B)) (drop (k + 1 + length B) l) (n + 1) front
       ∙ ap (λ (x : List A). x ++ (u ∷ B)) (sym tn)
       ∙ ap (λ (x : List A). take k (take n l) ++ (u ∷ x)) (sym dn)
-
-  pub closed : k < n → n ≤ length l
-      → take (n - 1) (placed l k (take (n - (k + 1)) (drop (k + 1) l))) ≡ take k (take n l) ++ drop (k + 1) (take n l)
-  closed h m =
-      let B : List A = take (n - (k + 1)) (drop (k + 1) l) in
-      let lb : length B ≡ n - (k + 1) = simp (length-take, length-drop) (omega arith) in
-      let room : k + length B ≤ length l = omega arith in
-      let en : n - 1 ≡ k + length B = omega arith in
-      ap (λ (j : ℕ). take j (placed l k B)) en
-      ∙ take-placed-end l k B room
-      ∙ ap (λ (x : List A). x ++ B) (sym (take-take k n l (omega arith)))
-      ∙ ap (λ (x : List A). take k (take n l) ++ x) (sym (drop-take (k + 1) n l))
 
 pub drop-replicate : {A : Type 0} (k n : ℕ) (a : A) → drop k (replicate n a) ≡ replicate (n - k) a
 drop-replicate zero n a = ap (λ (j : ℕ). replicate j a) (sym (sub-zero n))

@@ -1,26 +1,18 @@
 -- A loop over the elements from index i up to, not including, index n: what is asked of them, by the test of the first. Assumes nothing.
 use mathlib.Core.Path.{◌≡◌, ap, ◌∙◌}
-use mathlib.Core.Bool.{Bool, true, false, ◌||◌, ◌&&◌}
+use mathlib.Core.Bool.{Bool, true, false, ◌&&◌}
 use mathlib.Core.List.{List}
 use Prim.Native.Nat.{ℕ, ◌+◌, ◌≤◌, ◌<◌}
 use lib.ListN.{length, get_or}
 use lib.Seq.{slice}
 use borrow.Author.Tests.{lt-ltb, le-ltb}
-use Rattle.rules.specs.Lists.{any, all, rising}
+use Rattle.rules.specs.Lists.{all, rising}
 use Rattle.stores.specs.Admitted.{admitted}
 use Rattle.stores.proofs.Packs.{slice-step, slice-none}
 
 -- ---- by a test
 
 module _ {A : Type 0} (p : A → Bool) (l : List A) (i n : ℕ) (d : A) (h : i < n) (m : n ≤ length l) where
-  pub any_here : p (get_or l i d) ≡ true → any p (slice i n l) ≡ true
-  unfolding any
-  any_here e = ap (any p) (slice-step l i n d h m) ∙ ap (λ (b : Bool). b || any p (slice (i + 1) n l)) e
-
-  pub any-later : p (get_or l i d) ≡ false → any p (slice i n l) ≡ any p (slice (i + 1) n l)
-  unfolding any
-  any-later e = ap (any p) (slice-step l i n d h m) ∙ ap (λ (b : Bool). b || any p (slice (i + 1) n l)) e
-
   pub all_not : p (get_or l i d) ≡ false → all p (slice i n l) ≡ false
   unfolding all
   all_not e = ap (all p) (slice-step l i n d h m) ∙ ap (λ (b : Bool). b && all p (slice (i + 1) n l)) e
@@ -30,10 +22,6 @@ module _ {A : Type 0} (p : A → Bool) (l : List A) (i n : ℕ) (d : A) (h : i <
   all-on e = ap (all p) (slice-step l i n d h m) ∙ ap (λ (b : Bool). b && all p (slice (i + 1) n l)) e
 
 module _ {A : Type 0} (p : A → Bool) (l : List A) (i n : ℕ) (h : n ≤ i) where
-  pub any_none : any p (slice i n l) ≡ false
-  unfolding any
-  any_none = ap (any p) (slice-none l i n h)
-
   pub all_none : all p (slice i n l) ≡ true
   unfolding all
   all_none = ap (all p) (slice-none l i n h)

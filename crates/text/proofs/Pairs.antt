@@ -7,7 +7,7 @@ use native.Mathlib.Omega.{arith}
 use native.Mathlib.Nat.{zero-add}
 use lib.Dec.{leb, eqb}
 use lib.ListN.{length, get_or, set}
-use borrow.Author.Tests.{ltb-true, lt-ltb, le-ltb, le-leb, lt-leb, eq-eqb, ne_eqb, eqb-true}
+use borrow.Author.Tests.{ltb-true, lt-ltb, le-leb, lt-leb, eq-eqb, ne_eqb, eqb-true}
 use Rattle.rules.specs.Lists.{all, empty}
 use Rattle.rules.proofs.Lists.{and_left, and_right}
 use Rattle.stores.specs.Placed.{placed}
@@ -23,10 +23,6 @@ use Rattle.text.specs.Numbers.{digit_of, is_digit_byte}
 pub is_digit : (base b : ℕ) {d : ℕ} → d ≡ digit_of b → d < base → is_digit_byte base b ≡ true
 unfolding is_digit_byte
 is_digit base b e h = lt-ltb (digit_of b) base (omega arith)
-
-pub no_digit : (base b : ℕ) {d : ℕ} → d ≡ digit_of b → base ≤ d → is_digit_byte base b ≡ false
-unfolding is_digit_byte
-no_digit base b e h = le-ltb (digit_of b) base (omega arith)
 
 pub all-list_all : (p : ℕ → Bool) (s : List ℕ) → list_all p s ≡ all p s
 unfolding all
