@@ -1,4 +1,7 @@
 -- consumer_ready. Assumes nothing.
+use Rattle.std.specs.Prelude.{Result, Ok, Err, is_err}
+use Rattle.rules.specs.Codes.{ReadsMode}
+use Rattle.rules.specs.declared.Refusal.{Refusal}
 use mathlib.Core.Path.{◌≡◌, refl, sym, ap, ◌∙◌, subst}
 use mathlib.Core.Bool.{true, false}
 use mathlib.Core.List.{List, [], ◌∷◌, map}
@@ -6,7 +9,7 @@ use Prim.Native.Nat.{ℕ, ◌≤◌, ◌<◌}
 use native.Mathlib.Omega.{arith}
 use lib.ListN.{length}
 use lib.Dec.{ltb}
-use borrow.Author.Tests.{le-ltb, lt-ltb, le-leb, lt-leb, ltb-true, eq-eqb, ne_eqb}
+use borrow.Author.Tests.{le-ltb, lt-ltb, le-leb, lt-leb, ltb-true}
 use Rattle.rules.specs.declared.HostStatus.{HostStatus}
 use Rattle.rules.specs.declared.ReceiveMode.{ReceiveMode}
 use Rattle.rules.specs.declared.ReceiveMode.TheVariants.{Raw, Proposal, Channel, Rejection, Retiring}
@@ -180,3 +183,10 @@ pub exhausted : (status : HostStatus) (mode : ℕ) (s : SessionState) (l : List 
 exhausted status mode s l d o q ll ld lo lq k sound full h t =
     Calls.refused (is_ready status mode) (ready-takes status mode) s l d o q ll ld lo lq (ready-known status mode k) sound (entered s o q sound full lo lq) t
     (ready-reach status mode (state_of s o q)) (ready_spent status mode (state_of s o q) k h)
+
+-- ---- the code
+
+pub ready_code : (status : HostStatus) (mode : ℕ) (r : Result ReceiveMode Refusal) → ReadsMode mode r → wrong_code (is_ready status mode) ≡ is_err r
+unfolding wrong_code
+ready_code status mode (Ok m) h = le-ltb 4 mode h.0
+ready_code status mode (Err x) h = lt-ltb 4 mode h.1
