@@ -13,7 +13,7 @@ use Prim.Native.Nat.{ℕ, ◌*◌, ◌≤◌, ◌<◌}
 use native.Mathlib.Omega.{arith}
 use lib.ListN.{length, take, replicate, length-replicate}
 use lib.Dec.{leb, eqb}
-use borrow.Author.Tests.{lt-ltb, le-ltb, eq-eqb, ne_eqb, le-leb, lt-leb}
+use borrow.Author.Tests.{lt-ltb, le-ltb, eq-eqb, ne_eqb}
 use Rattle.stores.specs.Placed.{placed}
 use Rattle.rules.specs.declared.Answer.TheVariants.{Done}
 use Rattle.rules.specs.declared.Refusal.TheVariants.{RetriesFull}
@@ -243,9 +243,3 @@ may_retry n s e full =
           let k : retries_full n (state_of s o q) ≡ false = full_is n s o q x ∙ f in
           rw k at (report-sound 1 n false (state_of s o q) g.sound).1.few;
     }
-
-pub full_not : (n : ℕ) (v : Numbers) → v.count < 512 → false ≡ full_of n v
-full_not n v h = rw (lt-leb 512 v.count h)
-
-pub full_where : (n : ℕ) (v : Numbers) (b : Bool) → 512 ≤ v.count → b ≡ has n (in_use v) → not b ≡ full_of n v
-full_where n v b h e = rw (le-leb 512 v.count h, e)

@@ -4,7 +4,7 @@ use mathlib.Core.Path.{◌≡◌, refl, sym, ap, ◌∙◌}
 use mathlib.Core.Bool.{Bool, true, false, ◌&&◌, ◌||◌}
 use mathlib.Core.List.{List, [], ◌∷◌}
 use mathlib.Core.Option.{Option, none, some}
-use Prim.Native.Nat.{ℕ, ◌+◌, ◌*◌, ◌≤◌}
+use Prim.Native.Nat.{ℕ, ◌*◌, ◌≤◌}
 use native.Mathlib.Omega.{arith}
 use native.Mathlib.Nat.{add-zero}
 use lib.ListN.{length, take}
@@ -37,18 +37,8 @@ use Rattle.acks.specs.Steps.{ListedIf, clock_after, Acknowledges, notices, Acked
 -- ---- what is listed
 
 module _ (code number : ℕ) (l : List ℕ) (n : ℕ) where
-  pub goes-listed : (b : Bool) (l' : List ℕ) → b ≡ true → l' ≡ placed l (4 * n) (code ∷ number ∷ 0 ∷ 0 ∷ []) → ListedIf b code number l n l' (n + 1)
-  goes-listed b l' e w = rw e (record { count = refl; words = w })
-
   pub goes_not : (b : Bool) → b ≡ false → ListedIf b code number l n l n
   goes_not b e = rw e (record { count = sym (add-zero n); words = sym (placed-none l (4 * n)) })
-
-at_most_one : (b : Bool) → (if b then 1 else 0) ≤ 1
-at_most_one true = omega arith
-at_most_one false = omega arith
-
-pub one_more : (b : Bool) {code number n n' : ℕ} {l l' : List ℕ} → ListedIf b code number l n l' n' → n' ≤ n + 1
-one_more b h = omega (arith, h.count, at_most_one b)
 
 -- a request lists one event at most
 pub asked-few : (c : Clock) {l l' : List ℕ} {n' : ℕ} → Listed (asked c) l 0 l' n' → n' ≤ 1

@@ -36,9 +36,6 @@ use Rattle.session.proofs.Clocks.{clocked, exact_clocked}
 use Rattle.session.proofs.WithList as W
 use Rattle.session.proofs.WithList.{list_wrong, list_unsound, list-answers, list_meets}
 
-pub not_forced : (f a b : Bool) → f ≡ false → a ≡ b → a ≡ (not f && b)
-not_forced f a b e h = rw e h
-
 one_of_five : (x : Connectivity) → not (leb 1 (connectivity_number x) && leb (connectivity_number x) 5) ≡ false
 one_of_five Disconnected = refl
 one_of_five Reconnected = refl

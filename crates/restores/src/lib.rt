@@ -170,6 +170,7 @@ pub fn restore(
 ) -> Returned
     ensures { Restored «record» numbers.now lengths.now bodies.now given body.now s outbound.old result outbound.new }
 {
+    // Not by `session::enters`: the record's own tests stand between those of the entry.
     if outbound.len() < SessionState::OUTBOUND_BYTES {
         return session::refused(s, Refusal::ShortBuffer);
     }
