@@ -1,7 +1,7 @@
 // Acknowledgements: the Rust's `receive_ack`, the keepalive, and what follows a report of a send (session.rs).
 #![tactic(auto)]
 
-ghost use Rattle.std.specs.Prelude.{◌≡◌, Bool, true, false, ◌&&◌, ◌||◌, List, ℕ, ◌+◌, ◌*◌, ◌≤◌, ◌<◌, length, leb, eqb};
+ghost use Rattle.std.specs.Prelude.{◌≡◌, true, false, ◌&&◌, ◌||◌, List, ℕ, ◌+◌, ◌*◌, ◌≤◌, ◌<◌, length, leb, eqb};
 ghost use Rattle.rules.specs.Acks.{report_data, report_ack};
 ghost use Rattle.rules.specs.Calls.{gets_ack, gets_keepalive, reports};
 ghost use Rattle.rules.specs.State.{is_raw};

@@ -9,7 +9,7 @@ ghost use Rattle.draining.specs.Arrived.{Arrived};
 
 use delivery::Step;
 use peer_session::SessionState;
-use rules::{Answer, HostStatus, ReceiveMode, Refusal};
+use rules::{Answer, HostStatus, ReceiveMode};
 use session::Returned;
 
 // The queue of a sound session begins above remote: nothing in it is obsolete. A refusal that ends the drain is not returned.

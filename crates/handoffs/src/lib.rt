@@ -1,7 +1,7 @@
 // The terminal handoff: the Rust's `channel_command` (coordination.rs, session.rs) and `validate_terminal_handoff` (peer_session.rs).
 #![tactic(auto)]
 
-ghost use Rattle.std.specs.Prelude.{◌≡◌, Bool, true, false, List, ℕ, ◌-◌, ◌≤◌, length, take, drop};
+ghost use Rattle.std.specs.Prelude.{◌≡◌, Bool, true, ◌≤◌, length};
 ghost use Rattle.std.proofs.Math.Option.{none, some};
 ghost use Rattle.rules.specs.Lists.{Bytes, any};
 ghost use Rattle.rules.specs.Calls.{commands};

@@ -1,7 +1,7 @@
 // Setting a session up: the Rust's `accept_session`, `reject_session`, `prepare_channel` and `retire` (session.rs, coordination.rs).
 #![tactic(auto)]
 
-ghost use Rattle.std.specs.Prelude.{◌≡◌, Bool, ◌&&◌, List, ℕ, ◌≤◌, length, eqb};
+ghost use Rattle.std.specs.Prelude.{◌≡◌, ◌&&◌, List, ℕ, ◌≤◌, length, eqb};
 ghost use Rattle.rules.specs.Calls.{accepts, rejects, prepares_channel, retires};
 ghost use Rattle.rules.specs.Setup.{is_none};
 ghost use Rattle.queue.specs.View.{ExactQueue};
