@@ -1,5 +1,10 @@
 -- A report of a send, test by test. Assumes nothing.
 use Rattle.std.specs.Prelude.{if◌then◌else◌}
+use Rattle.std.specs.Prelude.{Result, Ok, Err, is_err}
+use Rattle.rules.specs.declared.FrameKind.{FrameKind}
+use Rattle.rules.specs.declared.Refusal.{Refusal}
+use Rattle.rules.specs.Codes.{ReadsFrameKind}
+use Rattle.rules.proofs.Codes.{code-small}
 use mathlib.Core.Path.{◌≡◌, refl, sym, ap, ◌∙◌}
 use mathlib.Core.Bool.{Bool, true, false, not, ◌&&◌}
 use mathlib.Core.List.{List, [], ◌∷◌, map}
@@ -50,6 +55,11 @@ module _ (what n : ℕ) (accepted : Bool) where
   pub bad_code : 1 < what → wrong_code (reports what n accepted) ≡ true
   unfolding wrong_code
   bad_code h = lt-ltb 1 what h
+
+  pub read-code : (r : Result FrameKind Refusal) → ReadsFrameKind what r → wrong_code (reports what n accepted) ≡ is_err r
+  unfolding wrong_code
+  read-code (Ok k) e = le-ltb 1 what (code-small k e)
+  read-code (Err x) e = lt-ltb 1 what e.1
 
   module _ (h : what ≤ 1) where
     pub good-code : wrong_code (reports what n accepted) ≡ false

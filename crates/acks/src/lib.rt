@@ -278,24 +278,16 @@ fn retry_ack(s: SessionState, number: u64) -> Returned
 pub fn report(s: SessionState, list: &mut [u64], what: u64, number: u64, accepted: bool) -> Returned
     ensures { CalledWithList (reports what number accepted) s list.old result list.new }
 {
-    if list.len() < SessionState::EVENT_WORDS {
-        return session::refused(s, Refusal::ShortBuffer);
-    }
-    let kind = match FrameKind::try_from(what) {
-        Ok(kind) => kind,
-        Err(x) => return session::refused(s, x),
-    };
-    if !peer_session::sound(s) {
-        return session::refused(s, Refusal::BadRecord);
-    }
-    match kind {
-        FrameKind::Data if accepted => report_data(s, list, number),
-        FrameKind::Data => Returned {
+    let read = FrameKind::try_from(what);
+    match session::enters(s, list.len(), ANY, ANY, ANY, read.is_err(), false).and(read) {
+        Ok(FrameKind::Data) if accepted => report_data(s, list, number),
+        Ok(FrameKind::Data) => Returned {
             session: s,
             answer: Answer::Done,
             events: 0,
         },
-        FrameKind::Ack if accepted => ack_sent(s, number),
-        FrameKind::Ack => retry_ack(s, number),
+        Ok(FrameKind::Ack) if accepted => ack_sent(s, number),
+        Ok(FrameKind::Ack) => retry_ack(s, number),
+        Err(x) => session::refused(s, x),
     }
 }

@@ -1,13 +1,12 @@
 -- The steps of a commit, by their tests. Assumes nothing.
-use mathlib.Core.Path.{◌≡◌, refl, sym, ap, ◌∙◌}
+use mathlib.Core.Path.{◌≡◌, refl, sym, ap}
 use mathlib.Core.Bool.{Bool, true, false}
 use mathlib.Core.List.{List, [], ◌∷◌, map}
-use Prim.Native.Nat.{ℕ, ◌+◌, ◌*◌, ◌≤◌, ◌<◌, max}
+use Prim.Native.Nat.{ℕ, ◌+◌, ◌*◌, ◌≤◌, ◌<◌}
 use native.Mathlib.Omega.{arith}
 use lib.ListN.{length}
 use borrow.Author.Tests.{le-leb, lt-leb}
 use Rattle.stores.specs.Placed.{placed}
-use Rattle.rules.specs.declared.Clock.{Clock}
 use Rattle.rules.specs.declared.PreparedCommit.{PreparedCommit}
 use Rattle.rules.specs.State as R
 use Rattle.rules.specs.State.{clock_is}
@@ -25,19 +24,7 @@ use Rattle.outbox.specs.Steps.{Releases}
 use Rattle.peer_session.specs.declared.SessionState.{SessionState}
 use Rattle.peer_session.specs.View.{state_of}
 use Rattle.peer_session.proofs.Held.{outbox_cong, inbox_cong, state_cong}
-use Rattle.commits.specs.Releases.{Persists, MayRelease, ReleasesBy, notices}
-
--- ---- persisted
-
-module _ (c : PreparedCommit) (x : Clock) where
-  abbrev clock-at : ℕ → Clock → Clock
-  clock-at g y = record { last_replay_at = y.last_replay_at; generation = y.generation; released = y.released; persisted = g }
-
-  raised : (b : Bool) (g : ℕ) → b ≡ true → g ≡ max x.persisted c.generation → Persists b c x (clock-at g x)
-  raised b g e m t f =
-      rw e
-      (ap (λ (k : ℕ). clock_is (clock-at k x) t) m
-      ∙ ap (λ (y : Clock). clock_is (clock-at (max y.persisted c.generation) y) t) (sym f))
+use Rattle.commits.specs.Releases.{MayRelease, ReleasesBy, notices}
 
 -- ---- released
 

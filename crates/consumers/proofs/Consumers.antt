@@ -1,4 +1,7 @@
 -- consumer_ready. Assumes nothing.
+use Rattle.std.specs.Prelude.{Result, Ok, Err, is_err}
+use Rattle.rules.specs.Codes.{ReadsMode}
+use Rattle.rules.specs.declared.Refusal.{Refusal}
 use mathlib.Core.Path.{◌≡◌, refl, sym, ap, ◌∙◌, subst}
 use mathlib.Core.Bool.{true, false}
 use mathlib.Core.List.{List, [], ◌∷◌, map}
@@ -6,7 +9,7 @@ use Prim.Native.Nat.{ℕ, ◌≤◌, ◌<◌}
 use native.Mathlib.Omega.{arith}
 use lib.ListN.{length}
 use lib.Dec.{ltb}
-use borrow.Author.Tests.{le-ltb, lt-ltb, le-leb, lt-leb, ltb-true, eq-eqb, ne_eqb}
+use borrow.Author.Tests.{le-ltb, lt-ltb, le-leb, lt-leb, ltb-true}
 use Rattle.rules.specs.declared.HostStatus.{HostStatus}
 use Rattle.rules.specs.declared.ReceiveMode.{ReceiveMode}
 use Rattle.rules.specs.declared.ReceiveMode.TheVariants.{Raw, Proposal, Channel, Rejection, Retiring}
@@ -27,11 +30,8 @@ use Rattle.events.proofs.Laws.{write-none}
 use Rattle.queue.proofs.View.{frames-total}
 use Rattle.peer_session.specs.declared.SessionState.{SessionState}
 use Rattle.peer_session.specs.View.{state_of, Exact}
-use Rattle.peer_session.specs.Sound.{sound_of, Full}
 use Rattle.peer_session.proofs.View.{Good}
-use Rattle.session.specs.declared.Returned.{Returned}
-use Rattle.session.specs.Promise.{lent, Called, Turned}
-use Rattle.session.proofs.Entry.{entered}
+use Rattle.session.specs.Promise.{lent, Called}
 use Rattle.delivery.specs.declared.Turn.{Turn}
 use Rattle.draining.specs.declared.Ended.{Ended}
 use Rattle.draining.specs.Turns.{turn_of}
@@ -50,10 +50,6 @@ use Rattle.draining.proofs.Calls.{arrived_entered}
 pub ready-takes : (status : HostStatus) (mode : ℕ) → taken_by (is_ready status mode) ≡ takes true true true true
 unfolding taken_by
 ready-takes status mode = refl
-
-pub ready_wrong : (status : HostStatus) (mode : ℕ) → 4 < mode → wrong_code (is_ready status mode) ≡ true
-unfolding wrong_code
-ready_wrong status mode h = lt-ltb 4 mode h
 
 pub ready-known : (status : HostStatus) (mode : ℕ) → mode ≤ 4 → wrong_code (is_ready status mode) ≡ false
 unfolding wrong_code
@@ -174,9 +170,9 @@ module _ (status : HostStatus) (mode : ℕ) (s : SessionState) (l : List ℕ) (d
       forgiven-final us (stays T then drain status) (books l 0 d 0) (books l' e.events d' c₂.end) e.stop (state_of e.session o' q')
       (c₂.does us (stays T) (books l 0 d 0) (fresh-books l d) (ap (ends None T) (write-none us (books l 0 d 0)))))
 
-pub exhausted : (status : HostStatus) (mode : ℕ) (s : SessionState) (l : List ℕ) (d o q : Bytes) → 4096 ≤ length l → 49152 ≤ length d → 65536 ≤ length o → 32768 ≤ length q → mode ≤ 4
-    → sound_of s ≡ true → Full s → 4294966000 ≤ s.clock.generation → {r : Returned} → Turned s GenerationsExhausted r
-    → Called (is_ready status mode) s (lent l d o q) r (lent l d o q)
-exhausted status mode s l d o q ll ld lo lq k sound full h t =
-    Calls.refused (is_ready status mode) (ready-takes status mode) s l d o q ll ld lo lq (ready-known status mode k) sound (entered s o q sound full lo lq) t
-    (ready-reach status mode (state_of s o q)) (ready_spent status mode (state_of s o q) k h)
+-- ---- the code
+
+pub ready_code : (status : HostStatus) (mode : ℕ) (r : Result ReceiveMode Refusal) → ReadsMode mode r → wrong_code (is_ready status mode) ≡ is_err r
+unfolding wrong_code
+ready_code status mode (Ok m) h = le-ltb 4 mode h.0
+ready_code status mode (Err x) h = lt-ltb 4 mode h.1

@@ -9,7 +9,7 @@ ghost use Rattle.draining.specs.Arrived.{Arrived};
 
 use delivery::Step;
 use peer_session::SessionState;
-use rules::{Answer, HostStatus, ReceiveMode, Refusal};
+use rules::{Answer, HostStatus, ReceiveMode};
 use session::Returned;
 
 // The queue of a sound session begins above remote: nothing in it is obsolete. A refusal that ends the drain is not returned.
@@ -54,27 +54,18 @@ pub fn consumer_ready(
 ) -> Returned
     ensures { Called (is_ready status mode) s (lent list.old delivery.old outbound.old queue.old) result (lent list.new delivery.new outbound.new queue.new) }
 {
-    if list.len() < SessionState::EVENT_WORDS {
-        return session::refused(s, Refusal::ShortBuffer);
+    let read = ReceiveMode::try_from(mode);
+    let entered = session::enters(
+        s,
+        list.len(),
+        delivery.len(),
+        outbound.len(),
+        queue.len(),
+        read.is_err(),
+        true,
+    );
+    match entered.and(read) {
+        Ok(read) => ready(s, list, delivery, outbound, queue, status, read),
+        Err(x) => session::refused(s, x),
     }
-    if delivery.len() < SessionState::DELIVERY_BYTES {
-        return session::refused(s, Refusal::ShortBuffer);
-    }
-    if outbound.len() < SessionState::OUTBOUND_BYTES {
-        return session::refused(s, Refusal::ShortBuffer);
-    }
-    if queue.len() < SessionState::QUEUE_BYTES {
-        return session::refused(s, Refusal::ShortBuffer);
-    }
-    let read = match ReceiveMode::try_from(mode) {
-        Ok(read) => read,
-        Err(x) => return session::refused(s, x),
-    };
-    if !peer_session::sound(s) {
-        return session::refused(s, Refusal::BadRecord);
-    }
-    if SessionState::GENERATION_LIMIT <= s.clock.generation {
-        return session::refused(s, Refusal::GenerationsExhausted);
-    }
-    ready(s, list, delivery, outbound, queue, status, read)
 }

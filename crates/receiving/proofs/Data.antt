@@ -2,14 +2,13 @@
 use mathlib.Core.Path.{◌≡◌, refl, sym, ap, ◌∙◌, subst}
 use mathlib.Core.Bool.{true, false}
 use mathlib.Core.List.{List}
-use Prim.Native.Nat.{ℕ, ◌+◌, ◌*◌, ◌≤◌, ◌<◌}
+use Prim.Native.Nat.{ℕ, ◌+◌, ◌*◌, ◌≤◌}
 use native.Mathlib.Omega.{arith}
 use lib.ListN.{length}
-use borrow.Author.Tests.{le-ltb, lt-ltb}
+use borrow.Author.Tests.{le-ltb}
 use Rattle.rules.specs.declared.HostStatus.{HostStatus}
 use Rattle.rules.specs.declared.Answer.TheVariants.{Flag}
 use Rattle.rules.specs.declared.Refusal.{Refusal}
-use Rattle.rules.specs.declared.Refusal.TheVariants.{GenerationsExhausted}
 use Rattle.rules.specs.Lists.{Bytes, packed}
 use Rattle.rules.specs.State as R
 use Rattle.rules.specs.State.{Frame, State, frame_body, body_of}
@@ -30,21 +29,18 @@ use Rattle.queue.specs.View.{end_q, frames_of, ExactQueue}
 use Rattle.queue.proofs.View.{frames-bytes, frames-total}
 use Rattle.peer_session.specs.declared.SessionState.{SessionState}
 use Rattle.peer_session.specs.View.{held, state_of, Exact}
-use Rattle.peer_session.specs.Sound.{sound_of, Full}
 use Rattle.peer_session.proofs.View.{Good}
 use Rattle.session.specs.declared.Returned.{Returned}
 use Rattle.session.specs.Promise.{lent, exit, Called, Turned}
-use Rattle.session.proofs.Entry.{entered}
 use Rattle.receiving.specs.declared.Verdict.{Verdict}
 use Rattle.receiving.specs.declared.Verdict.TheVariants.{Refuse, Fail, Again, New}
 use Rattle.draining.specs.declared.Ended.{Ended}
 use Rattle.draining.specs.Ends.{Stores, Fails}
-use Rattle.draining.specs.Arrived.{told}
 use Rattle.receiving.specs.Checks.{verdict_of, again, anew, ruled, reached, Checked, Acknowledges, Acknowledging, Receiving, Anew}
 use Rattle.draining.specs.Arrived.{Arrived}
 use Rattle.receiving.specs.Calls.{returned}
 use Rattle.draining.proofs.Failing.{same-unacked, failing-goes, fails_final, fails_stores}
-use Rattle.receiving.proofs.Checks.{spent, spent_reach, as_ruled, as_reached, new-frame, old_frame}
+use Rattle.receiving.proofs.Checks.{as_ruled, as_reached, new-frame, old_frame}
 use Rattle.draining.proofs.Failing.{fresh-books}
 use Rattle.draining.proofs.Calls as Calls
 use Rattle.draining.proofs.Calls.{arrived-good, arrived_entered}
@@ -55,18 +51,11 @@ pub data_takes : (status : HostStatus) (f : Frame) → taken_by (gets_data statu
 unfolding taken_by
 data_takes status f = refl
 
-pub data_wrong : (status : HostStatus) (f : Frame) → 2 < f.kind → wrong_code (gets_data status f) ≡ true
-unfolding wrong_code
-data_wrong status f h = lt-ltb 2 f.kind h
-
 pub data_known : (status : HostStatus) (f : Frame) → f.kind ≤ 2 → wrong_code (gets_data status f) ≡ false
 unfolding wrong_code
 data_known status f h = le-ltb 2 f.kind h
 
 -- ---- the answer
-
-pub answered_as : (e : Ended) (y : Option Refusal) → e.stop ≡ y → record { session = e.session; answer = told (Flag true) y; events = e.events } ≡ returned e
-answered_as e y h = ap {B = Returned} (λ (z : Option Refusal). record { session = e.session; answer = told (Flag true) z; events = e.events }) (sym h)
 
 -- ---- past the tests at the entry
 
@@ -169,10 +158,3 @@ module _ (status : HostStatus) (f : Frame) (s : SessionState) (l : List ℕ) (d 
     pub new_by : {r : Returned} {y : Ended} {l' : List ℕ} {d' o' q' : Bytes} → v ≡ New → Anew status f s l d o q y l' d' o' q' → r ≡ returned y
         → Called c s (lent l d o q) r (lent l' d' o' q')
     new_by e h re = comes New e (anew status f S) refl (stores_at New e refl h.stores) h.does re
-
-pub exhausted : (status : HostStatus) (f : Frame) (s : SessionState) (l : List ℕ) (d o q : Bytes) → 4096 ≤ length l → 49152 ≤ length d → 65536 ≤ length o → 32768 ≤ length q → f.kind ≤ 2
-    → sound_of s ≡ true → Full s → 4294966000 ≤ s.clock.generation → {r : Returned} → Turned s GenerationsExhausted r
-    → Called (gets_data status f) s (lent l d o q) r (lent l d o q)
-exhausted status f s l d o q ll ld lo lq k sound full h t =
-    Calls.refused (gets_data status f) (data_takes status f) s l d o q ll ld lo lq (data_known status f k) sound (entered s o q sound full lo lq) t
-    (spent_reach status f (state_of s o q) k h) (spent status f (state_of s o q) k h)

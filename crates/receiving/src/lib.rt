@@ -14,7 +14,7 @@ use delivery::{Frame, Step, Turn};
 use draining::Ended;
 use peer_session::SessionState;
 use rules::{Answer, BodyKind, EventCode, HostStatus, ReceiveMode, Refusal};
-use session::{ANY, Returned};
+use session::Returned;
 
 // What becomes of data.
 #[derive(Clone, Copy)]

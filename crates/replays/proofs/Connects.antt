@@ -12,6 +12,11 @@ use borrow.Author.Tests.{le-leb, lt-leb, eq-eqb, ne_eqb}
 use Rattle.rules.specs.declared.Answer.TheVariants.{Flag}
 use Rattle.rules.specs.declared.Clock.{Clock}
 use Rattle.rules.specs.declared.Refusal.TheVariants.{ShortBuffer, UnknownCode, BadRecord}
+use Rattle.rules.specs.declared.Refusal.{Refusal}
+use Rattle.rules.specs.declared.Connectivity.{Connectivity}
+use Rattle.rules.specs.declared.Connectivity.TheVariants.{Disconnected, Reconnected, PeerUnavailable, Registered, PeerAvailable}
+use Rattle.rules.specs.Codes.{connectivity_number, ReadsConnectivity}
+use Rattle.std.specs.Prelude.{Result, Ok, Err, is_err}
 use Rattle.rules.specs.Lists.{Bytes, empty}
 use Rattle.rules.specs.State as R
 use Rattle.rules.specs.Clock.{held_back, replayed_at}
@@ -30,6 +35,27 @@ use Rattle.session.proofs.Queries.{empty-unacked}
 use Rattle.session.proofs.Clocks.{clocked, exact_clocked}
 use Rattle.session.proofs.WithList as W
 use Rattle.session.proofs.WithList.{list_wrong, list_unsound, list-answers, list_meets}
+
+one_of_five : (x : Connectivity) → not (leb 1 (connectivity_number x) && leb (connectivity_number x) 5) ≡ false
+one_of_five Disconnected = refl
+one_of_five Reconnected = refl
+one_of_five PeerUnavailable = refl
+one_of_five Registered = refl
+one_of_five PeerAvailable = refl
+
+pub up_to_three : (x : Connectivity) → leb 4 (connectivity_number x) ≡ false → (1 ≤ connectivity_number x) × (connectivity_number x ≤ 3)
+up_to_three Disconnected e = (omega arith, omega arith)
+up_to_three Reconnected e = (omega arith, omega arith)
+up_to_three PeerUnavailable e = (omega arith, omega arith)
+up_to_three Registered e = cc
+up_to_three PeerAvailable e = cc
+
+pub four_or_five : (x : Connectivity) → leb 4 (connectivity_number x) ≡ true → (4 ≤ connectivity_number x) × (connectivity_number x ≤ 5)
+four_or_five Disconnected e = cc
+four_or_five Reconnected e = cc
+four_or_five PeerUnavailable e = cc
+four_or_five Registered e = (omega arith, omega arith)
+four_or_five PeerAvailable e = (omega arith, omega arith)
 
 module _ (e : ℕ) (time : Float) (f : Bool) where
   -- the clock of a replay
@@ -62,6 +88,11 @@ module _ (e : ℕ) (time : Float) (f : Bool) where
   pub bad_code : (e ≡ 0) ⊎ (5 < e) → wrong_code (connects e time f) ≡ true
   bad_code (inl z) = code_below (omega (arith, z))
   bad_code (inr h) = code-above h
+
+  pub read-code : (r : Result Connectivity Refusal) → ReadsConnectivity e r → wrong_code (connects e time f) ≡ is_err r
+  unfolding wrong_code
+  read-code (Ok x) h = rw h (one_of_five x)
+  read-code (Err x) h = bad_code h.1
 
   -- ---- the rule
 

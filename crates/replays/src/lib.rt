@@ -1,16 +1,17 @@
 // Replays: the Rust's `connectivity` (session.rs, peer_session.rs).
 #![tactic(auto)]
 
-ghost use Rattle.std.specs.Prelude.{◌≡◌, not, ◌&&◌, ◌≤◌, leb, length};
+ghost use Rattle.std.specs.Prelude.{◌≡◌, true, not, ◌&&◌, ◌≤◌, leb, length};
 ghost use Rattle.rules.specs.Calls.{connects};
 ghost use Rattle.rules.specs.Clock.{held_back};
 ghost use Rattle.rules.specs.Codes.{connectivity_number};
+ghost use Rattle.peer_session.specs.Sound.{sound_of, Full};
 ghost use Rattle.session.specs.Promise.{CalledWithList};
-ghost use Rattle.replays.specs.Connects.{Noted, Replayed};
+ghost use Rattle.replays.specs.Connects.{Replayed};
 
 use peer_session::SessionState;
-use rules::{Answer, Connectivity, Refusal};
-use session::Returned;
+use rules::{Answer, Connectivity};
+use session::{ANY, Returned};
 
 // Whether an event sends anew what is unacked; the others do nothing.
 pub fn resends(event: Connectivity) -> bool
@@ -21,20 +22,6 @@ pub fn resends(event: Connectivity) -> bool
             false
         }
         Connectivity::Registered | Connectivity::PeerAvailable => true,
-    }
-}
-
-// Nothing is done.
-fn noted(s: SessionState) -> Returned
-    ensures { Noted s result }
-{
-    if !peer_session::sound(s) {
-        return session::refused(s, Refusal::BadRecord);
-    }
-    Returned {
-        session: s,
-        answer: Answer::Flag(true),
-        events: 0,
     }
 }
 
@@ -50,12 +37,9 @@ pub fn too_soon(time: f64, last: f64, force: bool) -> bool
 
 // What is unacked and not pending is sent anew, unless that was done a moment ago and is not forced.
 fn replayed(s: SessionState, list: &mut [u64], time: f64, force: bool) -> Returned
-    requires { 4096 ≤ length list.old }
+    requires { (4096 ≤ length list.old) × (sound_of s ≡ true) × Full s }
     ensures { Replayed time force s list.old result list.new }
 {
-    if !peer_session::sound(s) {
-        return session::refused(s, Refusal::BadRecord);
-    }
     if s.outbox.count == 0 {
         return Returned {
             session: s,
@@ -91,12 +75,14 @@ pub fn connectivity(
 ) -> Returned
     ensures { CalledWithList (connects event time force) s list.old result list.new }
 {
-    if list.len() < SessionState::EVENT_WORDS {
-        return session::refused(s, Refusal::ShortBuffer);
-    }
-    match Connectivity::try_from(event) {
+    let read = Connectivity::try_from(event);
+    match session::enters(s, list.len(), ANY, ANY, ANY, read.is_err(), false).and(read) {
         Ok(event) if resends(event) => replayed(s, list, time, force),
-        Ok(_) => noted(s),
+        Ok(_) => Returned {
+            session: s,
+            answer: Answer::Flag(true),
+            events: 0,
+        },
         Err(x) => session::refused(s, x),
     }
 }

@@ -195,6 +195,7 @@ pub fn restore(
 ) -> Returned
     ensures { RestoredBy «record».entry.reliable «record».entry.numbers.now «record».entry.lengths.now «record».entry.bodies.now (given_if given.entry) s outbound.old result outbound.new }
 {
+    // Not by `session::enters`: the record's own tests stand between those of the entry.
     if outbound.len() < SessionState::OUTBOUND_BYTES {
         return session::refused(s, Refusal::ShortBuffer);
     }

@@ -1,12 +1,13 @@
 -- A call that is stopped at its entry meets its promise. Assumes nothing.
-use mathlib.Core.Path.{◌≡◌, refl, sym, subst, ◌∙◌}
+use mathlib.Core.Path.{◌≡◌, refl, sym, ap, subst, ◌∙◌}
 use mathlib.Core.Bool.{Bool, true, false, ◌&&◌, ◌||◌}
 use mathlib.Core.List.{[]}
 use Prim.Native.Nat.{ℕ, ◌≤◌}
 use lib.ListN.{length}
 use lib.Dec.{ltb, leb}
 use borrow.Author.Tests.{ltb-false, leb-true}
-use Rattle.std.specs.Prelude.{Result, Err}
+use Rattle.std.specs.Prelude.{Result, Ok, Err, IfOk, is_err}
+use Rattle.std.specs.Result.{result_and}
 use Rattle.rules.specs.declared.Answer.TheVariants.{Refused}
 use Rattle.rules.specs.declared.Refusal.{Refusal}
 use Rattle.rules.specs.declared.Refusal.TheVariants.{GenerationsExhausted}
@@ -65,3 +66,32 @@ stops c s l {a} {d} {o} {q} {wrong} {raises} {e} {x} {r} en is t lengths code fo
         let y = sp z.0 j (state_of s l.outbound l.queue) z.1 in
         is_refused c s l (lengths ∙ i) (code ∙ j) (stopped_by h t) k (entered s l.outbound l.queue k en.full (fo n.0) (fq n.1)) y.1 y.0
     go false false true false i j k m h = cc
+
+-- ---- a call that reads a code: the tests and the code, joined by `and`
+
+not_read : (b u f : Bool) {x : Refusal} → entry_of b true u f ≡ Ok tt → stop x ≡ Ok tt
+not_read true u f e = cc
+not_read false u f e = cc
+
+module _ {T : Type 0} {s : SessionState} {a d o q : ℕ} {wrong raises : Bool} {e : Result (Unit {0}) Refusal} (code : Result T Refusal) (w : wrong ≡ is_err code)
+    (en : Enters s a d o q wrong raises e) where
+  -- a code that is none stops the call at its entry
+  pub stopped_at : {x : Refusal} → result_and e code ≡ Err x → e ≡ Err x
+  stopped_at {x} k = go e code refl refl k
+    where
+      go : (e' : Result (Unit {0}) Refusal) (c' : Result T Refusal) → e ≡ e' → code ≡ c' → result_and e' c' ≡ Err x → e ≡ Err x
+      go (Err y) c' i j k =
+          let f : y ≡ x = cc in
+          i ∙ ap stop f
+      go (Ok u) (Err y) i j k =
+          let m : wrong ≡ true = w ∙ ap is_err j in
+          i ∙ sym (not_read (lacking a d o q) (sound_of s) (raises && leb 4294966000 s.clock.generation) {x = x} (rw m at (sym en.is ∙ i)))
+      go (Ok u) (Ok v) i j k = cc
+
+  -- what is known past it
+  pub passed_at : {A : Type 0} {v : T} → IfOk e (λ u. A) → result_and e code ≡ Ok v → A × (code ≡ Ok v)
+  passed_at {A} {v} p k = go e refl k
+    where
+      go : (e' : Result (Unit {0}) Refusal) → e ≡ e' → result_and e' code ≡ Ok v → A × (code ≡ Ok v)
+      go (Err y) i k = cc
+      go (Ok u) i k = (subst (λ (z : Result (Unit {0}) Refusal). IfOk z (λ u. A)) i p, k)
