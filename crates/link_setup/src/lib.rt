@@ -41,15 +41,15 @@ pub fn prepare_channel(
         return link_codes::refusal(Refusal::BadRecord);
     }
     let setup = bytes[parts::SETUP];
-    if setup == 0 {
+    if setup == SetupCode::None as u8 {
         let disposition = bytes[parts::DISPOSITION];
         stage(halves, bytes, disposition, SetupCode::Waiting as u8, terms);
         return link_codes::done(0);
     }
-    if setup == 1 {
+    if setup == SetupCode::Waiting as u8 {
         return link_codes::done(0);
     }
-    if setup == 2 {
+    if setup == SetupCode::Started as u8 {
         return link_codes::refusal(Refusal::ChannelStarted);
     }
     link_codes::refusal(Refusal::SetupRetired)

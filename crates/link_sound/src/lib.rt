@@ -11,6 +11,7 @@ ghost use Rattle.parts.specs.Parts.{at, queued_at, queue_in, policy_in, waiting_
 ghost use Rattle.link_sound.specs.Sizes.{admits};
 
 use parts::{Bytes, Halves, Words};
+use rules::BodyKind;
 
 // ---- the queue
 
@@ -18,7 +19,11 @@ fn admits(body: u64, bytes: u64, last: u64, sum: u64, number: u64, len: u64, kin
     requires { sum ≤ bytes }
     ensures { result ≡ admits body bytes last sum number len kind }
 {
-    last < number && number <= rules::LAST_REMOTE && kind <= 2 && len <= body && len <= bytes - sum
+    last < number
+        && number <= rules::LAST_REMOTE
+        && kind <= BodyKind::Reject as u8
+        && len <= body
+        && len <= bytes - sum
 }
 
 // Whether the numbers rise from remote on, and each body and all of them are within the policy.
