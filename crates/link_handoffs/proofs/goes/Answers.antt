@@ -3,20 +3,9 @@ use Rattle.link_restores.proofs.Handoffs.{flag-there, flag_gone}
 use Rattle.handoffs.proofs.Commands.{a-command, is_none}
 use Rattle.link_handoffs.proofs.goes.Goals as goal
 
-pub no_command-requires : goal.no_command-requires
-no_command-requires c = c.requires.0.list
-
 pub returns-then-not-present : goal.returns-then-not-present
 returns-then-not-present c = by_command c.args.restoring (is_none c.args.present c.args.id c.args.body.now (c.if-not-present.true)) (c.no_command.ensures c.args.outbound.now (exact_in c.args.words.now c.args.halves.now c.args.bytes.now c.args.clock.now c.args.outbound.now c.requires.0))
-
-pub hand_off-requires : goal.hand_off-requires
-hand_off-requires c = (c.requires.0, flag_gone _ c.if-bytes-eq0.true, c.requires.1 (c.if-not-present.false))
-
-pub returns-then-bytes-eq0 : goal.returns-then-bytes-eq0
-returns-then-bytes-eq0 c = by_command c.args.restoring (a-command c.args.present c.args.id c.args.body.now (c.if-not-present.false)) (c.hand_off.ensures c.args.restoring)
 
 pub pending-requires : goal.pending-requires
 pending-requires c = (c.requires.0.list, holding_in c.args.words.now c.args.halves.now c.args.bytes.now c.args.clock.now c.args.outbound.now c.requires.0 (flag-there _ c.if-bytes-eq0.false))
 
-pub returns : goal.returns
-returns c = by_command c.args.restoring (a-command c.args.present c.args.id c.args.body.now (c.if-not-present.false)) c.pending.ensures

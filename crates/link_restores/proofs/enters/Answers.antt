@@ -17,9 +17,6 @@ returns-then-record c = λ t. bad_code c.args.«record» c.args.numbers.now c.ar
 pub returns-then-not-sound : goal.returns-then-not-sound
 returns-then-not-sound c = λ t. unsound c.args.«record» c.args.numbers.now c.args.lengths.now c.args.bodies.now c.args.given c.args.body.now (parts c.args.words.now c.args.halves.now c.args.bytes.now t) c.if-outbound-lt-OUTBOUND_BYTES.false (sym c.short_record.ensures ∙ c.if-short_record.false) c.if-record.false (sym (c.sound.ensures t).is ∙ c.if-not-sound.true)
 
-pub good_record-requires : goal.good_record-requires
-good_record-requires c = (long_record c.args.numbers.now c.args.lengths.now c.args.bodies.now (sym c.short_record.ensures ∙ c.if-short_record.false)).enough
-
 pub returns-then-not-good_record : goal.returns-then-not-good_record
 returns-then-not-good_record c = λ t. bad_record c.args.«record» c.args.numbers.now c.args.lengths.now c.args.bodies.now c.args.given c.args.body.now (parts c.args.words.now c.args.halves.now c.args.bytes.now t) c.if-outbound-lt-OUTBOUND_BYTES.false (sym c.short_record.ensures ∙ c.if-short_record.false) c.if-record.false (sym (c.sound.ensures t).is ∙ c.if-not-sound.false) (c.sound.ensures t).full (sym (c.good_record.ensures c.args.bodies.now (sym c.short_record.ensures ∙ c.if-short_record.false)) ∙ c.if-not-good_record.true)
 
