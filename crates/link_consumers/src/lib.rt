@@ -9,7 +9,7 @@ ghost use Rattle.link_consumers.specs.Modes.{Readying};
 
 use delivery::Step;
 use parts::{Bytes, Halves, LinkAnswer, Words};
-use rules::HostStatus;
+use rules::{HostStatus, ReceiveMode};
 
 // The queue of a sound session begins above remote: nothing in it is obsolete. A refusal that ends the drain is not returned.
 fn ready(
@@ -62,7 +62,7 @@ pub fn consumer_ready(
         delivery.len(),
         outbound.len(),
         queue.len(),
-        4 < mode,
+        mode > ReceiveMode::Retiring as u64,
     );
     match stop {
         Err(x) => link_codes::refusal(x),

@@ -11,7 +11,8 @@ use delivery::{Frame, Step, Turn};
 use parts::{Bytes, Halves, Words};
 use rules::{EventCode, HostStatus, ReceiveMode, Refusal};
 
-// The step that a drain ended at, how many frames were taken from the front of the queue, and the refusal that ended it.
+// The step that a drain ended at, how many frames were taken from the front of the queue, and the refusal that ended it: what was delivered before a refusal
+// stands, so this is no Result.
 #[derive(Clone, Copy)]
 pub struct DrainEnd {
     pub step: Step,
@@ -82,7 +83,7 @@ fn reach(t: Turn, remote: u64, generation: u32) -> Turn
     r
 }
 
-// Code 2 with the body, and code 1 while the generation exceeds the persisted one.
+// Code 2 with the body, and code 1 while the generation exceeds the persisted one. delivery's takes and gives a `Step`, of which a turn is most.
 fn hand_over(
     list: &mut [u64],
     n: usize,
@@ -115,7 +116,7 @@ fn hand_over(
     n + 1
 }
 
-// Where the host is there. Nothing but numbers changes from frame to frame.
+// Where the host is there. Nothing but numbers changes from frame to frame, so the loop keeps them bare: a `Step` made anew for each frame is no plainer.
 fn drain_raw(
     s: Step,
     words: &mut Words,

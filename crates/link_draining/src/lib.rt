@@ -18,7 +18,7 @@ use delivery::{Step, Turn};
 use parts::{Bytes, Halves, Words};
 use rules::{Clock, EventCode, HostStatus, ReceiveMode, Refusal};
 
-// The count of events at a call's end, and the refusal that ended it.
+// The count of events at a call's end, and the refusal that ended it: the events stand beside a refusal, so this is no Result.
 #[derive(Clone, Copy)]
 pub struct Ending {
     pub events: usize,

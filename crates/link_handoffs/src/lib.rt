@@ -235,7 +235,7 @@ fn goes(
     pending(words, halves, bytes, clock, list, outbound, restoring, c)
 }
 
-// A channel's command: its body is handed to the link, or is there already.
+// A channel's command: its body is handed to the link, or is there already. C has no Option: present says whether there is one, with id and body.
 pub fn command(
     words: &mut Words,
     halves: &mut Halves,

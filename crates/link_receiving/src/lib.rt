@@ -16,7 +16,7 @@ use delivery::Frame;
 use link_draining::Ending;
 use parts::{Bytes, Halves, LinkAnswer, Words};
 use receiving::Verdict;
-use rules::{Answer, HostStatus};
+use rules::{Answer, BodyKind, HostStatus};
 
 // What data answers, by the refusal that ended it.
 fn answered(e: Ending) -> LinkAnswer
@@ -87,7 +87,7 @@ pub fn data(
         delivery.len(),
         outbound.len(),
         queue.len(),
-        2 < kind,
+        kind > BodyKind::Reject as u64,
     );
     match stop {
         Err(x) => link_codes::refusal(x),

@@ -11,6 +11,7 @@ ghost use Rattle.parts.specs.Parts.{at, queued_at, queue_in, policy_in, waiting_
 ghost use Rattle.link_sound.specs.Sizes.{admits};
 
 use parts::{Bytes, Halves, Words};
+use rules::BodyKind;
 
 // ---- the queue
 
@@ -20,7 +21,7 @@ fn admits(body: u64, bytes: u64, last: u64, sum: u64, number: u64, len: u64, kin
 {
     last < number
         && number <= rules::LAST_REMOTE
-        && kind <= rules::BodyKind::Reject as u8
+        && kind <= BodyKind::Reject as u8
         && len <= body
         && len <= bytes - sum
 }

@@ -6,10 +6,6 @@ pub holds-requires : goal.holds-requires
 holds-requires c =
     topped-later c.args.words.now c.args.halves.now c.args.bytes.now c.args.clock.now c.requires
 
-pub request-requires : goal.request-requires
-request-requires c =
-    omega (arith, listed-later c.args.words.now c.args.halves.now c.args.bytes.now c.args.clock.now c.requires)
-
 pub carry-requires : goal.carry-requires
 carry-requires c =
     carrying_kept c.args.words.now c.args.halves.now c.args.bytes.now c.args.clock.now c.requires c.clock_in-c.ensures c.request.ensures c.request.auto.list
@@ -49,10 +45,6 @@ returns-then-words-end c =
 pub insert-requires : goal.insert-requires
 insert-requires c =
     may_insert c.args.words.now c.args.halves.now c.args.bytes.now c.args.clock.now c.requires c.holds.ensures c.if-holds.false c.if-words-count.false c.start-end.ensures c.if-words-end.false
-
-pub request-requires-2 : goal.request-requires-2
-request-requires-2 c =
-    omega (arith, listed-later c.args.words.now c.args.halves.now c.args.bytes.now c.args.clock.now c.requires)
 
 pub carry-requires-2 : goal.carry-requires-2
 carry-requires-2 c =

@@ -2,12 +2,6 @@ use native.Mathlib.Omega.{arith}
 use Rattle.link_arrivals.proofs.Steps.{answers, waits, fits}
 use Rattle.link_arrivals.proofs.receive_again.Goals as goal
 
-pub emit-requires : goal.emit-requires
-emit-requires c = omega (arith, c.requires.0.list)
-
-pub request-n-requires : goal.request-n-requires
-request-n-requires c = omega (arith, c.requires.0.list, c.emit.auto.list)
-
 pub returns-then-number-words : goal.returns-then-number-words
 returns-then-number-words c =
     answers c.args.number c.args.words.now c.args.halves.now c.args.bytes.now c.args.clock.now c.args.list.now c.clock_in-c.ensures c.if-number-words.true c.emit.ensures c.request-n.ensures
@@ -15,9 +9,6 @@ returns-then-number-words c =
 pub put-requires : goal.put-requires
 put-requires c =
     (c.requires.1, fits c.args.number c.args.words.now c.args.halves.now c.args.bytes.now c.args.clock.now c.args.list.now c.requires.0 c.if-number-words.false)
-
-pub request-n-requires-2 : goal.request-n-requires-2
-request-n-requires-2 c = omega (arith, c.requires.0.list)
 
 pub returns : goal.returns
 returns c =

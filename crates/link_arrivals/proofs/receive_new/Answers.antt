@@ -6,20 +6,11 @@ pub turn_of-t-requires : goal.turn_of-t-requires
 turn_of-t-requires c =
     codes c.args.words.now c.args.halves.now c.args.bytes.now c.args.clock.now c.requires
 
-pub delivers-requires : goal.delivers-requires
-delivers-requires c =
-    above c.args.words.now c.args.halves.now c.args.bytes.now c.args.clock.now c.requires c.turn_of-t.ensures
-
 pub take_now-requires : goal.take_now-requires
 take_now-requires c =
     choosing c.args.words.now c.args.halves.now c.args.bytes.now c.args.clock.now c.requires c.turn_of-t.ensures true c.args.status c.delivers.ensures c.if-delivers.true
-
-pub returns-then-delivers : goal.returns-then-delivers
-returns-then-delivers c = c.take_now.ensures
 
 pub enqueue-requires : goal.enqueue-requires
 enqueue-requires c =
     choosing c.args.words.now c.args.halves.now c.args.bytes.now c.args.clock.now c.requires c.turn_of-t.ensures false c.args.status c.delivers.ensures c.if-delivers.false
 
-pub returns : goal.returns
-returns c = c.enqueue.ensures

@@ -19,9 +19,6 @@ up_to-from-requires c = few_now c.args.words.now c.args.halves.now c.args.bytes.
 pub put-requires : goal.put-requires
 put-requires c = may_put c.args.words.now c.args.halves.now c.args.bytes.now c.args.clock.now c.requires c.in-Ok.ensures
 
-pub request-requires : goal.request-requires
-request-requires c = may_request c.args.words.now c.args.halves.now c.args.bytes.now c.args.clock.now c.requires c.in-Ok.ensures c.deliver.auto.list
-
 pub carry-requires : goal.carry-requires
 carry-requires c =
     carrying c.args.words.now c.args.halves.now c.args.bytes.now c.args.clock.now c.requires c.in-Ok.ensures (omega arith) (omega arith) c.put.ensures c.up_to-from.ensures c.request.ensures (c.request.auto.list ∙ c.deliver.auto.list) c.deliver.auto.delivery

@@ -13,4 +13,3 @@ ready-requires c =
 pub returns-in-Err : goal.returns-in-Err
 returns-in-Err c =
     stopped c.args.status c.args.mode c.args.words.now c.args.halves.now c.args.bytes.now c.args.clock.now c.args.list.now c.args.delivery.now c.args.outbound.now c.args.queue.now c.enters-stop.ensures c.in-Err.x c.in-Err.is c.refusal.ensures
-

@@ -5,11 +5,6 @@ use Rattle.delivery.proofs.Queues.{part-size}
 use Rattle.link_delivery.proofs.Raw.{handed-asked, handed_plain}
 use Rattle.link_delivery.proofs.hand_over.Goals as goal
 
-pub copy_in-requires : goal.copy_in-requires
-copy_in-requires c =
-    let x = c.args in
-    omega (arith, ap length c.part-body.ensures ∙ part-size x.store.now x.start x.len c.requires.0, c.requires.2)
-
 pub returns-then-persisted-generation : goal.returns-then-persisted-generation
 returns-then-persisted-generation c =
     let x = c.args in

@@ -2,9 +2,6 @@ use native.Mathlib.Omega.{arith}
 use Rattle.link_numbers.proofs.Changes.{lies, put-stays, put-fits, put-comes}
 use Rattle.link_numbers.proofs.put.Goals as goal
 
-pub seat-i-requires : goal.seat-i-requires
-seat-i-requires c = (lies c.requires.0, c.requires.0.rises)
-
 pub returns-then-words-from : goal.returns-then-words-from
 returns-then-words-from c =
     put-stays c.requires.0 c.args.n c.seat-i.result c.seat-i.ensures c.if-i-count.true c.if-words-from.true

@@ -11,11 +11,6 @@ use Rattle.link_numbers.proofs.release.Goals as goal
 pub loop-i-init : goal.loop-i-init
 loop-i-init c = releasing_in c.args.upto c.args.list.now c.args.n c.requires.0 c.requires.1
 
-pub overflow_add-k : goal.overflow_add-k
-overflow_add-k c =
-    let a = c.args in
-    omega (arith, c.loop-i.invariant.releasing.sifted.behind, (c.from-k.ensures ∙ as_number (ltb c.args.upto (at c.loop-i.words (c.args.from + c.loop-i.i)))), step_small (ltb a.upto (at c.loop-i.words (a.from + c.loop-i.i))))
-
 pub loop-i-preserved : goal.loop-i-preserved
 loop-i-preserved c =
     releasing_on c.loop-i.invariant c.loop-i-test.true (c.from-k.ensures ∙ as_number (ltb c.args.upto (at c.loop-i.words (c.args.from + c.loop-i.i)))) c.list_one-events.auto.list c.list_one-events.ensures

@@ -6,9 +6,6 @@ use Rattle.parts.specs.Parts.{section}
 use Rattle.link_numbers.proofs.Asked.{rises_in, rises-stop}
 use Rattle.link_numbers.proofs.rises.Goals as goal
 
-pub loop-i-init : goal.loop-i-init
-loop-i-init c = (c.requires.0, c.requires.1, refl)
-
 pub returns-then-x-top : goal.returns-then-x-top
 returns-then-x-top c =
     let a = c.args in

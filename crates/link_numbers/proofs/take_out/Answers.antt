@@ -11,9 +11,6 @@ use Rattle.link_numbers.proofs.take_out.Goals as goal
 pub loop-i-init : goal.loop-i-init
 loop-i-init c = sifting_none (differs_from c.args.n) c.requires
 
-pub overflow_add-k : goal.overflow_add-k
-overflow_add-k c = omega (arith, c.loop-i.invariant.sifted.behind, (c.from-k.ensures ∙ as_number (differs_from c.args.n (at c.loop-i.words (c.args.from + c.loop-i.i)))), step_small (differs_from c.args.n (at c.loop-i.words (c.args.from + c.loop-i.i))))
-
 pub loop-i-preserved : goal.loop-i-preserved
 loop-i-preserved c = sifting_more c.loop-i.invariant _ c.loop-i-test.true (c.from-k.ensures ∙ as_number (differs_from c.args.n (at c.loop-i.words (c.args.from + c.loop-i.i))))
 

@@ -14,4 +14,3 @@ receive-requires c =
 pub returns-in-Err : goal.returns-in-Err
 returns-in-Err c =
     stopped c.args.status (frame_of c.args.number c.args.kind c.args.body.now) c.args.words.now c.args.halves.now c.args.bytes.now c.args.clock.now c.args.list.now c.args.delivery.now c.args.outbound.now c.args.queue.now c.enters-stop.ensures c.in-Err.x c.in-Err.is c.refusal.ensures
-
