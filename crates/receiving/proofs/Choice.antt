@@ -9,9 +9,8 @@ use lib.ListN.{length}
 use lib.Dec.{leb, ltb, eqb}
 use borrow.Author.Tests.{eq-eqb, ne_eqb, eqb-true, eqb-false, ltb-true, lt-ltb, le-ltb, le-leb}
 use Rattle.rules.specs.declared.HostStatus.{HostStatus}
-use Rattle.rules.specs.declared.ReceiveMode.{ReceiveMode}
 use Rattle.rules.specs.Lists.{every, kept, rising}
-use Rattle.rules.specs.State.{Frame, State, is_proposal, frame_number, is_frame, queue_is}
+use Rattle.rules.specs.State.{Frame, State, frame_number, is_frame, queue_is}
 use Rattle.rules.specs.Receiving.{available, deliverable, above, other_than, keeping, enqueue, deliver, is_next, at_once, from_ahead, receive_new, queued, queue_full, queue_overrun}
 use Rattle.rules.specs.Sound.{sound_frame}
 use Rattle.rules.specs.Buffers.{queue_end}
@@ -23,19 +22,11 @@ use Rattle.receiving.specs.Checks.{NewFrame, Terminal, Delivers, reach_new}
 
 -- ---- what is asked of a turn
 
-pub terminal_in : (k : ℕ) (t : Turn) (m : ReceiveMode) → t.mode ≡ m → (r : Bool) → r ≡ (is_proposal m && eqb k 2) → Terminal k t r
-terminal_in k t m e r h n b s fs ws u = h ∙ ap (λ (z : ReceiveMode). is_proposal z && eqb k 2) (sym e ∙ u.mode)
-
 or_none : (b : Bool) → b ≡ (b || false)
 or_none true = refl
 or_none false = refl
 
 module _ (status : HostStatus) (n k : ℕ) (t : Turn) {a : Bool} (h : Available status t a) where
-  pub delivers_off : a ≡ false → Delivers status n k t false
-  delivers_off e b s fs ws u =
-      let z : available status (during s fs ws t) ≡ false = sym (h s fs ws u) ∙ e in
-      rw z
-
   module _ (on : a ≡ true) where
     pub delivers_next : n ≡ t.remote + 1 → {d : Bool} → Deliverable n k t d → Delivers status n k t d
     delivers_next e {d} g b s fs ws u =

@@ -39,7 +39,6 @@ use Rattle.receiving.specs.declared.Verdict.{Verdict}
 use Rattle.receiving.specs.declared.Verdict.TheVariants.{Refuse, Fail, Again, New}
 use Rattle.draining.specs.declared.Ended.{Ended}
 use Rattle.draining.specs.Ends.{Stores, Fails}
-use Rattle.draining.specs.Arrived.{told}
 use Rattle.receiving.specs.Checks.{verdict_of, again, anew, ruled, reached, Checked, Acknowledges, Acknowledging, Receiving, Anew}
 use Rattle.draining.specs.Arrived.{Arrived}
 use Rattle.receiving.specs.Calls.{returned}
@@ -62,11 +61,6 @@ data_wrong status f h = lt-ltb 2 f.kind h
 pub data_known : (status : HostStatus) (f : Frame) → f.kind ≤ 2 → wrong_code (gets_data status f) ≡ false
 unfolding wrong_code
 data_known status f h = le-ltb 2 f.kind h
-
--- ---- the answer
-
-pub answered_as : (e : Ended) (y : Option Refusal) → e.stop ≡ y → record { session = e.session; answer = told (Flag true) y; events = e.events } ≡ returned e
-answered_as e y h = ap {B = Returned} (λ (z : Option Refusal). record { session = e.session; answer = told (Flag true) z; events = e.events }) (sym h)
 
 -- ---- past the tests at the entry
 

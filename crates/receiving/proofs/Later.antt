@@ -117,9 +117,6 @@ module _ {status : HostStatus} {t : Turn} {f : Frame} {s : SessionState} {l : Li
   count : length fs ≡ s.queue.count
   count = frames-length s.queue q rc.exact.queued
 
-  pub used-fits : (s.queue.count ≤ 256) × (end_q s.queue ≤ 32768)
-  used-fits = (rc.exact.queued.few, rc.exact.queued.small)
-
   pub body-fits : length f.body ≤ 16384
   body-fits = body-short rc
 
