@@ -1,6 +1,8 @@
 // The call of a line. The bodies of a line lie one after the other in a buffer that holds all that a line can bring.
 #![tactic(auto)]
 
+ghost use Rattle.std.specs.Prelude.{◌≡◌};
+
 use records::{Handoff, Messages, Record};
 use rules::{HostStatus, Policy, PreparedCommit, Terms};
 use scripts::Fields;
@@ -26,7 +28,11 @@ pub struct Lent<'a> {
 }
 
 impl Buffers<'_> {
-    pub fn lent(&self) -> Lent {
+    pub fn lent(&self) -> Lent
+        ensures numbers { result.numbers.now ≡ self.now.numbers.now }
+        ensures lengths { result.lengths.now ≡ self.now.lengths.now }
+        ensures body { result.body.now ≡ self.now.body.now }
+    {
         Lent {
             numbers: self.numbers,
             lengths: self.lengths,

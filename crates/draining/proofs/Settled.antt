@@ -132,9 +132,6 @@ module _ (s : SessionState) (o q : Bytes) (e : Exact s (length o) (length q)) wh
         reject = omega (arith, length-take-le s.reject.len s.reject.bytes (omega (arith, e.rest)), e.rest);
       }
 
-  pub begins_as : during (state_of s o q) (frames_of s.queue q) (in_use s.waiting) (turn_of s) ≡ state_of s o q
-  begins_as = refl
-
 pub finished : {t : Turn} {w : Numbers} {taken : ℕ} {s : SessionState} {o q : Bytes} {r : SessionState} {x : Queue} {o' q' : Bytes} → Advances t w s o r o'
     → Queues.Repacked s.queue q (drop taken (frames_of s.queue q)) x q' → Finishes t w taken s o q (with_queue x r) o' q'
 finished {x = x} a h = record { is = ap (with_queue x) a.is; settles = a.settles; left = h }

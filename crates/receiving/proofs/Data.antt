@@ -55,8 +55,6 @@ pub data_known : (status : HostStatus) (f : Frame) → f.kind ≤ 2 → wrong_co
 unfolding wrong_code
 data_known status f h = le-ltb 2 f.kind h
 
--- ---- the answer
-
 -- ---- past the tests at the entry
 
 pub check_fits : {s : SessionState} {l : List ℕ} {d o q : Bytes} → Arrived s l d o q → ExactNumbers s.waiting × (s.queue.count ≤ 256)
