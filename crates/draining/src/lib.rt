@@ -14,7 +14,7 @@ use outbox::Outbox;
 use peer_session::{RejectBody, SessionState};
 use rules::{EventCode, HostStatus, Refusal};
 
-// The session that a call ends with, the count of events, and the refusal that ended it.
+// The session that a call ends with, the count of events, and the refusal that ended it: what was delivered before a refusal stands, so this is no Result.
 #[derive(Clone, Copy)]
 pub struct Ended {
     pub session: SessionState,

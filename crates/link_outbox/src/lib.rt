@@ -107,6 +107,7 @@ pub fn sound(words: &Words, halves: &Halves) -> bool
 
 // ---- where the bodies end
 
+// Kept beside `link_queue::start`: a sum of numbers for both would leave each caller to say that they are messages, or frames.
 pub fn used(halves: &Halves, count: usize) -> usize
     requires { Bounded halves.now count }
     ensures { (b : List ℕ) → result ≡ total len_u (seats count (unacked_at halves.now b)) }

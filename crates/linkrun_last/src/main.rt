@@ -1,4 +1,5 @@
 // `linkrun` for a session that has one message number left.
+// A program of its own, since each has one stored input.
 #![tactic(auto)]
 
 fn main(rt: HostRuntime) {

@@ -1,4 +1,5 @@
 // `linkrun` on a script with refusals, limits and lines that are no calls.
+// A program of its own, since each has one stored input.
 #![tactic(auto)]
 
 fn main(rt: HostRuntime) {

@@ -171,7 +171,8 @@ fn next_field(s: &[u8], end: usize) -> Option<(&[u8], usize)>
     Some((&s[at..e], e))
 }
 
-// The functions .._after read the field after the one that ends at index end, and return what it says and the index where it ends.
+// The functions .._after read the field after the one that ends at index end, and return what it says and the index where it ends. One for both kinds of
+// number would take a closure with its promise, in place of these three lines.
 pub fn decimal_after(s: &[u8], end: usize) -> Option<(u64, usize)>
     ensures { result ≡ after decimal_of s.now end }
 {
