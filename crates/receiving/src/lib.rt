@@ -95,7 +95,7 @@ fn receive_again(s: SessionState, list: &mut [u64], number: u64) -> Ended
     }
 }
 
-// In Proposal mode, a reject is taken from wherever it is ahead. By number and kind, as `delivers`: both forms ask before they have a Frame.
+// In Proposal mode, a reject is taken from wherever it is ahead. It asks for a kind alone, and `delivers` for number and kind: neither looks at a body.
 fn terminal(t: Turn, kind: u8) -> bool
     ensures { Terminal kind t result }
 {
