@@ -13,9 +13,3 @@ returns-then-gone-eq0 c = let within : c.staying-stay.result ≤ at c.args.words
     shed_none c.args.ack c.args.words.now c.args.halves.now c.args.bytes.now c.args.store.now c.requires (omega arith) (omega arith) (omega arith)
     (omega (arith, within, c.if-gone-eq0.true, c.staying-stay.ensures))
 
-pub returns-then-staying-stay : goal.returns-then-staying-stay
-returns-then-staying-stay c =
-    c.shed.ensures c.args.ack
-    (front_of c.args.ack c.args.words.now c.args.halves.now c.args.bytes.now c.args.store.now c.requires (omega arith) (omega arith) (omega arith)
-    c.staying-stay.result _ c.staying.result c.staying-stay.ensures
-    refl c.staying.ensures c.if-staying-stay.true)

@@ -7,14 +7,6 @@ use Rattle.parts.specs.Parts.{at, unacked_at}
 use Rattle.link_outbox.proofs.Sounds.{falls_more, falls-end, fall_is}
 use Rattle.link_outbox.proofs.falls_of.Goals as goal
 
-pub loop-i-init : goal.loop-i-init
-loop-i-init c = (omega arith, omega arith, omega arith, omega arith, λ b. omega arith)
-
-pub overflow_add-sum : goal.overflow_add-sum
-overflow_add-sum c =
-    let l = c.loop-i in
-    omega (arith, c.from-sum.ensures, as_few (leb (at c.args.halves.now l.i) (at c.args.halves.now (l.i - 1))))
-
 pub loop-i-preserved : goal.loop-i-preserved
 loop-i-preserved c =
     let l = c.loop-i in

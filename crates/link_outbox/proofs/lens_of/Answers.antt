@@ -4,14 +4,6 @@ use Rattle.outbox.specs.View.{len_u}
 use Rattle.link_outbox.proofs.Sounds.{total-seats, total-end}
 use Rattle.link_outbox.proofs.lens_of.Goals as goal
 
-pub loop-i-init : goal.loop-i-init
-loop-i-init c = (omega arith, omega arith, omega arith, λ b. omega arith)
-
-pub overflow_add-sum : goal.overflow_add-sum
-overflow_add-sum c =
-    let l = c.loop-i in
-    omega (arith, c.from-sum.ensures)
-
 pub loop-i-preserved : goal.loop-i-preserved
 loop-i-preserved c =
     let l = c.loop-i in

@@ -11,14 +11,6 @@ loop-i-init c =
     let a = c.args in
     (refl, freeing_none a.upto a.halves.now a.bytes.now (omega arith), listing_start a.words.now a.halves.now a.bytes.now (R.releases a.upto) a.list.now a.n c.requires.0 c.requires.1)
 
-pub send_if-m-requires : goal.send_if-m-requires
-send_if-m-requires c = listing-room c.loop-i.invariant.2 c.loop-i-test.true
-
-pub overflow_add-from : goal.overflow_add-from
-overflow_add-from c =
-    let a = c.args in
-    omega (arith, listing-body a.words.now a.halves.now a.bytes.now c.loop-i.invariant.2 c.loop-i-test.true)
-
 pub loop-i-preserved : goal.loop-i-preserved
 loop-i-preserved c =
     let a = c.args in
@@ -29,9 +21,6 @@ loop-i-preserved c =
       listing-turn a.words.now a.halves.now a.bytes.now l.invariant.2 lt (releases_u a.upto) (λ u s. refl) l.bytes (l.invariant.1.rest l.i (omega arith) (omega arith)) c.releases-goes.result
           c.releases-goes.ensures c.send_if-m.new.list c.send_if-m.result c.send_if-m.auto.list c.send_if-m.ensures _ refl,
     )
-
-pub shape_of-list : goal.shape_of-list
-shape_of-list c = c.loop-i.invariant.2.same
 
 pub returns : goal.returns
 returns c = frees c.args.words.now c.args.halves.now c.args.bytes.now c.loop-i.invariant.1 c.loop-i.invariant.2 c.loop-i-test.false

@@ -12,14 +12,6 @@ loop-i-init c =
     let a = c.args in
     (refl, listing_start a.words.now a.halves.now a.bytes.now not_pending a.list.now a.n c.requires.0 c.requires.1)
 
-pub send_if-m-requires : goal.send_if-m-requires
-send_if-m-requires c = listing-room c.loop-i.invariant.1 c.loop-i-test.true
-
-pub overflow_add-from : goal.overflow_add-from
-overflow_add-from c =
-    let a = c.args in
-    omega (arith, listing-body a.words.now a.halves.now a.bytes.now c.loop-i.invariant.1 c.loop-i-test.true)
-
 pub loop-i-preserved : goal.loop-i-preserved
 loop-i-preserved c =
     let a = c.args in
@@ -29,9 +21,6 @@ loop-i-preserved c =
       listing-turn a.words.now a.halves.now a.bytes.now l.invariant.1 lt not_pending_u (λ u s. refl) a.bytes.now refl _
           (sym (not_not _)) c.send_if-m.new.list c.send_if-m.result c.send_if-m.auto.list c.send_if-m.ensures _ refl,
     )
-
-pub shape_of-list : goal.shape_of-list
-shape_of-list c = c.loop-i.invariant.1.same
 
 pub returns : goal.returns
 returns c = replayed c.loop-i.invariant.1 c.loop-i-test.false

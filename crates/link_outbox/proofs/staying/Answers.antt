@@ -6,15 +6,6 @@ use Rattle.link_outbox.proofs.Sounds.{total-seats, total-end}
 use Rattle.link_outbox.proofs.Fronts.{stayer-one}
 use Rattle.link_outbox.proofs.staying.Goals as goal
 
-pub loop-i-init : goal.loop-i-init
-loop-i-init c = (omega arith, omega arith, omega arith, search rules, omega arith)
-
-pub overflow_add-sum : goal.overflow_add-sum
-overflow_add-sum c =
-    let l = c.loop-i in
-    let a = c.args in
-    omega (arith, c.stay_of-sum.ensures a.ack l.invariant.3, stayer-one a.ack (unacked_at a.halves.now a.bytes.now l.i))
-
 pub loop-i-preserved : goal.loop-i-preserved
 loop-i-preserved c =
     let l = c.loop-i in

@@ -11,20 +11,11 @@ loop-i-init c =
 pub lower_if-end-requires : goal.lower_if-end-requires
 lower_if-end-requires c = (c.loop-i.invariant.3.turns.sweeping.down, omega (arith, body-within c.loop-i.invariant.3 c.loop-i-test.true))
 
-pub overflow_add-from : goal.overflow_add-from
-overflow_add-from c = omega (arith, body-within c.loop-i.invariant.3 c.loop-i-test.true, c.loop-i.invariant.3.turns.size, c.requires.room)
-
 pub loop-i-preserved : goal.loop-i-preserved
 loop-i-preserved c =
     let l = c.loop-i in
     let g = turn l.invariant.3 c.loop-i-test.true c.keeps-stays.result c.keeps-stays.ensures _ refl c.lower_if-end.new.store c.lower_if-end.result c.lower_if-end.ensures c.lower_if-end.auto.store _ (ap (λ (n : ℕ). c.loop-i.k + n) c.from-k.ensures ∙ counted _ _) _ _ refl refl in
     (refl, l.invariant.1, g.turns.sweeping.order, g)
-
-pub clear-requires : goal.clear-requires
-clear-requires c = (c.loop-i.invariant.3.turns.sweeping.down, omega (arith, c.loop-i.invariant.3.turns.sweeping.room))
-
-pub shape_of-store : goal.shape_of-store
-shape_of-store c = c.clear.auto.store ∙ c.loop-i.invariant.3.turns.size
 
 pub returns : goal.returns
 returns c =

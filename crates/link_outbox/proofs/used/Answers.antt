@@ -23,8 +23,5 @@ loop-i-preserved c =
       λ b. omega (arith, l.invariant.2 b, total-seats (unacked_at a.halves.now b) l.i a.count len_u c.loop-i-test.true l.invariant.0.few),
     )
 
-pub overflow_cast-result : goal.overflow_cast-result
-overflow_cast-result c = omega (arith, c.loop-i.invariant.2 [], c.loop-i.invariant.0.small [])
-
 pub returns : goal.returns
 returns c = λ b. omega (arith, c.loop-i.invariant.2 b, total-end (unacked_at c.args.halves.now b) c.loop-i.i c.args.count len_u c.loop-i-test.false)

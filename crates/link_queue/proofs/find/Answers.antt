@@ -10,9 +10,6 @@ use Rattle.link_queue.proofs.find.Goals as goal
 pub loop-i-init : goal.loop-i-init
 loop-i-init c = (refl, c.requires, omega arith, counted_none _ _)
 
-pub overflow_add-sum : goal.overflow_add-sum
-overflow_add-sum c = omega (arith, c.loop-i.invariant.3.few, c.from-sum.ensures, as_few (eqb (at c.args.words.now (16 + c.loop-i.i)) c.args.number))
-
 pub loop-i-preserved : goal.loop-i-preserved
 loop-i-preserved c =
     let l = c.loop-i in

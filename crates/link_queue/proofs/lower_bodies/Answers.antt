@@ -10,6 +10,3 @@ pub returns-then-from-eq0 : goal.returns-then-from-eq0
 returns-then-from-eq0 c =
     stay-low c.args.store.now c.args.from c.args.end c.if-from-eq0.true c.requires.1
 
-pub returns : goal.returns
-returns c =
-    c.clear.ensures ∙ ap (λ (s : List ℕ). placed s (c.args.end - c.args.from) (replicate (c.args.end - (c.args.end - c.args.from)) 0)) c.move_run.ensures

@@ -6,5 +6,3 @@ pub returns-then-n-eq0 : goal.returns-then-n-eq0
 returns-then-n-eq0 c =
     stay_high c.args.store.now c.args.from c.args.end c.args.n c.if-n-eq0.true c.requires.0 (omega (arith, c.requires.1))
 
-pub returns : goal.returns
-returns c = c.move_run.ensures

@@ -18,13 +18,3 @@ loop-i-preserved c =
     let l = c.loop-i in
     (l.invariant.0, omega arith, omega (arith, l.invariant, bodies_more c.args.halves.now l.i))
 
-pub overflow_cast-result : goal.overflow_cast-result
-overflow_cast-result c =
-    let l = c.loop-i in
-    omega (arith, l.invariant, bodies-within c.args.halves.now c.args.k l.i l.invariant.0 l.invariant.1)
-
-pub returns : goal.returns
-returns c =
-    let l = c.loop-i in
-    let e : l.i ≡ c.args.k = omega (arith, l.invariant, c.loop-i-test.false) in
-    l.invariant.2 ∙ ap (bodies c.args.halves.now) e

@@ -5,18 +5,10 @@ use borrow.Author.Count.{below_none, below_more}
 use Rattle.link_queue.proofs.Finds.{leads_some, leads_all}
 use Rattle.link_queue.proofs.up_to.Goals as goal
 
-pub loop-i-init : goal.loop-i-init
-loop-i-init c = (refl, c.requires, omega arith, below_none _)
-
 pub returns-then-number-words : goal.returns-then-number-words
 returns-then-number-words c =
     let l = c.loop-i in
     leads_some c.args.number c.args.words.now l.i l.invariant.1 l.invariant.2 l.invariant.3 c.if-number-words.true
-
-pub loop-i-preserved : goal.loop-i-preserved
-loop-i-preserved c =
-    let l = c.loop-i in
-    (l.invariant.0, l.invariant.1, omega arith, below_more _ _ l.invariant.3 c.if-number-words.false)
 
 pub returns : goal.returns
 returns c =
