@@ -1,4 +1,4 @@
-// The call of a line. The bodies of a line lie one after the other in a buffer that holds all that a line can bring.
+// The call of a line. The bodies of a line lie one after the other in a buffer; a line with more than it holds is wrong.
 #![tactic(auto)]
 
 ghost use Rattle.std.specs.Prelude.{◌≡◌};
@@ -19,7 +19,7 @@ pub struct Buffers<'a> {
     pub body: &'a mut [u8],
 }
 
-// The same as calls are lent it, of any length.
+// What was read, as calls are lent it: slices of any length.
 #[derive(Clone, Copy)]
 pub struct Lent<'a> {
     pub numbers: &'a [u64],
