@@ -76,14 +76,6 @@ module _ (n : ℕ) (t : R.State) where
 -- ---- the call
 
 module _ (n : ℕ) (s : SessionState) (l : List ℕ) (o q d : Bytes) where
-  pub list-short : {r : Returned} → Turned s ShortBuffer r → length l < 4096 → Called (gets_ack n) s (lent l d o q) r (lent l d o q)
-  unfolding taken_by
-  list-short t h = is-short (gets_ack n) s (lent l d o q) t (short-list (taken_by (gets_ack n)) (lent l d o q) refl h)
-
-  pub outbound-short : {r : Returned} → Turned s ShortBuffer r → length o < 65536 → Called (gets_ack n) s (lent l d o q) r (lent l d o q)
-  unfolding taken_by
-  outbound-short t h = is-short (gets_ack n) s (lent l d o q) t (short-outbound (taken_by (gets_ack n)) (lent l d o q) refl h)
-
   pub queue-short : {r : Returned} → Turned s ShortBuffer r → length q < 32768 → Called (gets_ack n) s (lent l d o q) r (lent l d o q)
   unfolding taken_by
   queue-short t h = is-short (gets_ack n) s (lent l d o q) t (short-queue (taken_by (gets_ack n)) (lent l d o q) refl h)

@@ -107,20 +107,3 @@ module _ (b : Bool) (k : Option Command) (s : SessionState) (l : List ℕ) (o : 
       comes plain s l d o q (λ z. ll) sound full lo lq (from-started b k u) (carried_out b k (state_of s o q) low few) is-taken
 
 -- ---- a command as C gives it
-
--- the size that counts
-pub size_is : (present : Bool) (id : ℕ) (b : Bytes) → (if present then length b else 0) ≡ command_size (command_of present id b)
-size_is true id b = refl
-size_is false id b = refl
-
--- a body that a command has, by the length that was tested
-pub short-body : (present : Bool) {n m : ℕ} → present ≡ true → n ≡ (if present then m else 0) → n ≤ 4096 → m ≤ 4096
-short-body present {n} {m} p e h =
-    let f : n ≡ m = e ∙ ap (λ (b : Bool). if b then m else 0) p in
-    omega arith
-
-pub a-command : (present : Bool) (id : ℕ) (b : Bytes) → present ≡ true → command_of present id b ≡ some (record { id = id; body = b })
-a-command present id b e = rw e refl
-
-pub is_none : (present : Bool) (id : ℕ) (b : Bytes) → present ≡ false → command_of present id b ≡ none
-is_none present id b e = rw e refl

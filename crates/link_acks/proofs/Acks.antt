@@ -66,16 +66,6 @@ module _ (g : StageCodes) (good : good_codes g ≡ true) where
 -- ---- small steps
 
 module _ (a b g : ℕ) where
-  pub raised_not : a ≡ b → g ≡ raised_if (eqb a b) g
-  raised_not e = rw (eq-eqb a b e)
-
-  pub raised-one : (a ≡ b → ⊥) → g + 1 ≡ raised_if (eqb a b) g
-  raised-one e = rw (ne_eqb a b e)
-
--- whether a rejection is complete
-pub complete-left : (d : ℕ) (x : Bool) → d ≡ 4 → x ≡ (eqb d 4 && x)
-complete-left d x e = rw (eq-eqb d 4 e)
-
 -- ---- what is left
 
 module _ (w h b : List ℕ) (t : Float) (lh : length h ≡ 772) (lw : 1296 ≤ length w) (lb : 4936 ≤ length b) (w' h' b' : List ℕ) (left : ℕ) (words : w' ≡ set w 1 left)

@@ -31,7 +31,7 @@ use Rattle.draining.specs.Ends.{Fails, Abandoning, Abandons, Carrying, Carries}
 use Rattle.receiving.specs.Checks.{Acknowledges, Acknowledging, Anew, Delivers}
 use Rattle.receiving.proofs.Next.{new-above, taking}
 use Rattle.receiving.proofs.Again.{answers-again, waits-again}
-use Rattle.receiving.proofs.Now.{good, now_abandoning, now_refused, put-fits, request-room, now_carrying, now_taken}
+use Rattle.receiving.proofs.Now.{good, now_abandoning, now_refused, put-fits, now_carrying, now_taken}
 use Rattle.receiving.proofs.Later.{body-fits, kept_carrying, kept-queued, queue-many, queue_long, enters, joins_carrying, joins_queue}
 use Rattle.parts.specs.Parts.{parts, at, queue_in, waiting_in, clock_in, codes_in, opened_of}
 use Rattle.parts.proofs.Fields.{codes_same}
@@ -142,9 +142,6 @@ module _ {status : HostStatus} {u : Turn} {f : Frame} (w h b : List ℕ) (t : Fl
     pub may_put : Rising 272 5 w × (length (put itself f.number (in_use (waiting_in w))) ≤ 512)
     unfolding opened_of
     may_put = ((usable w h b t pre.checked).waiting, (put-fits pre.taking g).1)
-
-    pub may_request : length l₁ ≡ length l → 4 * a.events + 4 ≤ length l₁
-    may_request e = request-room pre.taking g e
 
     module _ (lw : 1296 ≤ length w) (lb : 4936 ≤ length b) {w₁ : List ℕ} (p : Becomes (put itself f.number (in_use (waiting_in w))) 272 5 w w₁)
         {k : ℕ} (ld : (h' b' : List ℕ) → Leads f.number (queue_in w h' b') k) {l₂ : List ℕ} {n : ℕ} (li : Listed (asked a.turn.clock) l₁ a.events l₂ n) where

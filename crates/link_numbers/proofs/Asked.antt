@@ -71,9 +71,6 @@ module _ (from : ℕ) (w : List ℕ) (n : ℕ) (few : n ≤ 512) (room : from + 
       subst (λ (x : ℕ). ascending (firsts from n w) ≡ rising itself x (slice 1 n (section from 512 w))) z
       (ascending_some (record { values = section from 512 w; count = n }) e few (section-length from w room))
 
-pub ascends_none : (from n : ℕ) (w : List ℕ) → n ≡ 0 → ascending (firsts from n w) ≡ true
-ascends_none from n w e = ascending-none (record { values = section from 512 w; count = n }) e
-
 -- ---- a list that ascends
 
 pub tail_ascends : (x : ℕ) (ns : List ℕ) → rising itself x ns ≡ true → ascending ns ≡ true

@@ -120,37 +120,6 @@ falls_more h b i n sum r t few k e s =
 
 -- ---- numbers that follow one another
 
-pub same-few : (a b : ℕ) → (if eqb a b then 1 else 0) ≤ 1
-same-few a b = go (eqb a b)
-  where
-    go : (t : Bool) → (if t then 1 else 0) ≤ 1
-    go true = omega arith
-    go false = omega arith
-
-same-is : (a b : ℕ) → ◌≡◌ {A = ℕ} (if eqb a b then 1 else 0) 1 → a ≡ b
-same-is a b h = go (eqb a b) (eqb-true a b) h
-  where
-    go : (t : Bool) → (t ≡ true → a ≡ b) → ◌≡◌ {A = ℕ} (if t then 1 else 0) 1 → a ≡ b
-    go true f e = f refl
-    go false f e = absurd (omega arith)
-
-pub steps_more : (h : List ℕ) (first i sum r : ℕ) → sum ≤ i → (sum ≡ i → Steps h first i) → r ≡ (if eqb (at h i) (first + i) then 1 else 0)
-    → sum + r ≡ i + 1 → Steps h first (i + 1)
-steps_more h first i sum r few so e all j k =
-    let o : r ≤ 1 = omega (arith, same-few (at h i) (first + i)) in
-    let here : at h i ≡ first + i = same-is (at h i) (first + i) (sym e ∙ one o) in
-    let s : Steps h first i = so (omega arith) in
-    ⊎_elim (λ (x : j ≡ i). ap (at h) x ∙ here ∙ ap (λ (n : ℕ). first + n) (sym x)) (λ (x : j < i). s j x) (eq-or-lt_of_le (upto j k))
-  where
-    one : r ≤ 1 → r ≡ 1
-    one o = omega arith
-
-    upto : (j : ℕ) → j < i + 1 → j ≤ i
-    upto j k = omega arith
-
-pub steps_all : (h : List ℕ) (first i n sum : ℕ) → i ≤ n → n ≤ i → (sum ≡ i → Steps h first i) → sum ≡ n → Steps h first n
-steps_all h first i n sum p q so e j k = so (omega arith) j (omega arith)
-
 -- they rise
 pub steps_rise : (h b : List ℕ) (first n : ℕ) → n ≤ 256 → Steps h first n → (m i : ℕ) → 1 ≤ i → i + m ≡ n
     → falls (at h (i - 1)) (slice i n (seats 256 (unacked_at h b))) ≡ 0

@@ -186,16 +186,6 @@ module _ (w h b : List ℕ) (q : Bytes) (number kind : ℕ) (body : Bytes) (r : 
         ap (λ (xs : List R.Frame). xs ++ (a ∷ drop k fs)) (take_all k fs (omega (arith, frames-length (queue_in w h b) q r.exact)))
         ∙ ap (λ (xs : List R.Frame). fs ++ (a ∷ xs)) (ap (λ (j : ℕ). drop j fs) last ∙ none_left (queue_in w h b) q r.exact)
 
-    pub joins-last : (end : ℕ) → end ≡ end_q (queue_in w h b) → length w ≡ 1296 → length h ≡ 772 → length b ≡ 4936 → Joins w h b (length q) end (length body)
-    joins-last end e lw lh lb =
-        record {
-          room = record { exact = r.exact; within = omega arith; free = r.free; short = r.short };
-          is = e;
-          words = lw;
-          halves = lh;
-          bytes = lb;
-        }
-
     pub put_last : (w' h' b' : List ℕ) (q' : Bytes) → Joined number kind body w h b q w' h' b' q'
         → Requeued (put frame_number (arrived number kind body) (frames_of (queue_in w h b) q)) w h b q w' h' b' q'
     put_last w' h' b' q' j =

@@ -110,8 +110,3 @@ module _ (status : HostStatus) (f : Frame) (w h b : List ℕ) (t : Float) (l : L
 -- ---- the answer
 
 module _ (e : Ending) {x : LinkAnswer} where
-  pub answered_no : e.stop ≡ None → x ≡ handed 0 2 1 0 0 e.events → x ≡ answer_of (told (Flag true) e.stop) e.events
-  answered_no z h = h ∙ sym (ap (λ (y : Option Refusal). answer_of (told (Flag true) y) e.events) z)
-
-  pub answered_by : (y : Refusal) → e.stop ≡ Some y → x ≡ answer_of (Refused y) e.events → x ≡ answer_of (told (Flag true) e.stop) e.events
-  answered_by y z h = h ∙ sym (ap (λ (v : Option Refusal). answer_of (told (Flag true) v) e.events) z)

@@ -70,21 +70,6 @@ module _ {ns ks h₀ b₀ h b : List ℕ} {i : ℕ} (g : Writing ns ks h₀ b₀
         bytes = then_past g.bytes (twice_past b i 0 0 k);
       }
 
-  pub writing_all : length ns ≤ i → Written ns ks h₀ b₀ h b
-  writing_all l =
-      let size : length (records_of ns ks) ≡ length ns = g.run.size in
-      let full : length (seats 256 (unacked_at h₀ b₀)) ≡ 256 = length-seats 256 (unacked_at h₀ b₀) in
-      let room : 0 + length (records_of ns ks) ≤ length (seats 256 (unacked_at h₀ b₀)) = omega (arith, g.fitting.few) in
-      let e : length ns ≡ 0 + length (records_of ns ks) = omega arith in
-      record {
-        used =
-            ap (λ (k : ℕ). take k (seats 256 (unacked_at h b))) e
-            ∙ ap (λ (us : List Unacked). take (0 + length (records_of ns ks)) us) (run-all g.run l)
-            ∙ take-placed-end (seats 256 (unacked_at h₀ b₀)) 0 (records_of ns ks) room;
-        halves = g.halves;
-        bytes = g.bytes;
-      }
-
 -- ---- the record is taken
 
 -- the outbox of records that are written, with the next number and the count

@@ -84,10 +84,6 @@ module _ (upto x : ℕ) where
       go true = omega arith
       go false = omega arith
 
-pub step_small : (t : Bool) → step t ≤ 1
-step_small true = omega arith
-step_small false = omega arith
-
 -- ---- both at once
 
 pub record Releasing (upto : ℕ) (ns₀ : List ℕ) (count : ℕ) (list₀ : List ℕ) (n : ℕ) (list ns : List ℕ) (m k i : ℕ) : Type 0 where

@@ -148,14 +148,6 @@ listing_none p x l n s full room =
     }
 
 module _ {p : R.Unacked → Bool} {x : Outbox} {l₀ : List ℕ} {n : ℕ} {l : List ℕ} {k at i : ℕ} (g : Listing p x l₀ n l k at i) where
-  -- room for one event more, and for the record's body
-  pub listing-room : i < x.count → 4 * k + 4 ≤ length l
-  listing-room h = omega (arith, g.few, g.same, g.room)
-
-  pub listing-fits : i < x.count → at + (get_or x.records i blank_u).len ≤ 65536
-  listing-fits h =
-      omega (arith, g.start, g.sound.small, g.full, g.sound.few, total-step len_u x.records i x.count blank_u h (omega (arith, g.full, g.sound.few)))
-
   module _ (h : i < x.count) (q : Unacked → Bool) (agrees : (u : Unacked) (b : Bytes) → p (unacked u b) ≡ q u) where
     listing-words : (l' : List ℕ) (k' : ℕ) → SentIf (q (get_or x.records i blank_u)) (get_or x.records i blank_u) at l k l' k' → (o : Bytes) → end_u x ≤ length o
         → ListedIn (unacked_of x o) (map data_frame (kept p (take (i + 1) (unacked_of x o)))) l₀ n l' k'

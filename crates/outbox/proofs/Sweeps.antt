@@ -210,13 +210,6 @@ module _ (b : Bool) (to from n : ℕ) (s : Bytes) where
         end = sym (ap (λ (t : Bool). if t then to + n else to) e);
       }
 
-  pub not_lowered : b ≡ false → Lowers b to from n s s to
-  not_lowered e =
-      record {
-        store = sym (ap (λ (t : Bool). if t then placed s to (take n (drop from s)) else s) e);
-        end = sym (ap (λ (t : Bool). if t then to + n else to) e);
-      }
-
 -- what the loop keeps that sweeps from w₀ and s₀ on
 pub record Turns (ack n : ℕ) (w₀ : Sweep) (s₀ : Bytes) (w : Sweep) (s : Bytes) : Type 0 where
   pub sweeping : Sweeping w n (length s)

@@ -145,9 +145,6 @@ module _ {status : HostStatus} {t : Turn} {f : Frame} {s : SessionState} {l : Li
     pub put-fits : (s.waiting.count ≤ 512) × (length (put itself f.number (in_use s.waiting)) ≤ 512)
     put-fits = (pre.receiving.exact.rest.waiting.few, omega (arith, after.1.room))
 
-    pub request-room : length l₁ ≡ length l → 4 * a.events + 4 ≤ length l₁
-    request-room e = omega (arith, h.few, pre.receiving.listed)
-
     module _ {acks : Numbers} (p : Holds (put itself f.number (in_use s.waiting)) acks) {k : ℕ} (ld : Leads f.number s.queue k) where
       abbrev there : State
       there = during S (drop k (frames_of s.queue q)) (in_use acks) a.turn

@@ -77,9 +77,6 @@ module _ (h : TerminalHandoff) (there : h.present ≡ true) where
 
 -- ---- the one given
 
-pub handed-none : {r : TerminalHandoff} → NoHandoff r → Handed none r
-handed-none n = record { is = rw n.absent refl; full = n.full; size = rw n.absent (omega arith) }
-
 pub handed-is : (k : R.Handoff) → length k.body ≤ 4096 → (x : Bytes) → x ≡ placed (replicate 4096 0) 0 k.body
     → Handed (some k) (record { body = x; len = length k.body; id = k.id; number = k.number; sent = k.sent; acknowledged = k.acknowledged; present = true })
 unfolding placed

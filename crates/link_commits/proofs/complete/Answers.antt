@@ -1,7 +1,7 @@
 -- `link_commits::complete` meets its contract, by what its tests found. Assumes nothing.
 use lib.ListN.{length}
 use Rattle.parts.specs.Parts.{parts}
-use Rattle.link_commits.proofs.Completes.{found-ready, turned}
+use Rattle.link_commits.proofs.Completes.{turned}
 use Rattle.link_commits.proofs.complete.Goals as goal
 
 pub returns-in-Err : goal.returns-in-Err

@@ -2,7 +2,7 @@ use mathlib.Core.Path.{refl}
 use Prim.Native.Nat.{◌≤◌}
 use native.Mathlib.Omega.{arith}
 use Rattle.parts.specs.Parts.{at}
-use Rattle.link_outbox.proofs.Fronts.{stay-within, shed_none, front_of}
+use Rattle.link_outbox.proofs.Fronts.{stay-within, shed_none}
 use Rattle.link_outbox.proofs.acknowledge.Goals as goal
 
 pub overflow_sub-gone : goal.overflow_sub-gone

@@ -2,7 +2,7 @@ use mathlib.Core.Path.{ap, ◌∙◌}
 use Prim.Native.Nat.{ℕ}
 use lib.ListN.{take, drop}
 use Rattle.stores.specs.Placed.{placed}
-use Rattle.outbox.proofs.Sweeps.{lowered, not_lowered, placed_same}
+use Rattle.outbox.proofs.Sweeps.{lowered, placed_same}
 use borrow.Author.Rules.{rules}
 use Rattle.link_outbox.proofs.lower_if.Goals as goal
 

@@ -1,4 +1,3 @@
-use Rattle.link_queue.proofs.Sums.{bodies-within}
 use mathlib.Core.Path.{◌≡◌, sym, ap, ◌∙◌}
 use native.Mathlib.Omega.{arith}
 use Rattle.link_queue.specs.Steps.{bodies}

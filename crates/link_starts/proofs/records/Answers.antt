@@ -1,6 +1,6 @@
 use native.Mathlib.Omega.{arith}
 use Rattle.starts.proofs.Slices.{length-small}
-use Rattle.link_starts.proofs.Messages.{writing_none, writing_more, writing_all}
+use Rattle.link_starts.proofs.Messages.{writing_none, writing_more}
 use Rattle.link_starts.proofs.records.Goals as goal
 
 pub loop-i-init : goal.loop-i-init
