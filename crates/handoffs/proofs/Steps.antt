@@ -7,7 +7,6 @@ use Prim.Native.Nat.{ℕ, ◌+◌, ◌≤◌}
 use native.Mathlib.Omega.{arith}
 use lib.ListN.{length, take, drop, replicate, length-replicate}
 use lib.Seq.{take_at}
-use Rattle.rules.specs.declared.Setup.TheVariants.{Started}
 use Rattle.rules.specs.declared.Answer.TheVariants.{Done, Refused}
 use Rattle.rules.specs.declared.Refusal.{Refusal}
 use Rattle.rules.specs.declared.Refusal.TheVariants.{HandoffWithoutCommand}
@@ -28,9 +27,9 @@ use Rattle.peer_session.specs.declared.SessionState.{SessionState}
 use Rattle.peer_session.specs.View.{handoff_of, state_of, Exact}
 use Rattle.session.specs.declared.Returned.{Returned}
 use Rattle.session.specs.Promise.{Turned}
-use Rattle.setup.specs.Steps.{Joins, Asks, staged, Comes}
+use Rattle.setup.specs.Steps.{Joins, Asks, Comes}
 use Rattle.setup.proofs.Steps.{stays-packed, turned_is, stopped}
-use Rattle.handoffs.specs.Commands.{starting_in, commanding, HandsOver}
+use Rattle.handoffs.specs.Commands.{commanding, HandsOver}
 
 -- ---- a new handoff
 
@@ -46,15 +45,6 @@ hands_over id number b x h e =
       full = ap length e ∙ length-placed z 0 b (omega arith) ∙ lz;
       size = h;
     }
-
--- ---- setup started
-
-module _ (b : Bool) (s : SessionState) where
-  pub not_started : b ≡ false → s ≡ starting_in b s
-  not_started e = rw e refl
-
-  pub started : {r : SessionState} → b ≡ true → r ≡ staged s.stage.disposition Started s → r ≡ starting_in b s
-  started e f = f ∙ rw e refl
 
 -- ---- a step that leaves both stores
 

@@ -43,13 +43,6 @@ up_to_three PeerUnavailable e = (omega arith, omega arith)
 up_to_three Registered e = cc
 up_to_three PeerAvailable e = cc
 
-pub four_or_five : (x : Connectivity) → leb 4 (connectivity_number x) ≡ true → (4 ≤ connectivity_number x) × (connectivity_number x ≤ 5)
-four_or_five Disconnected e = cc
-four_or_five Reconnected e = cc
-four_or_five PeerUnavailable e = cc
-four_or_five Registered e = (omega arith, omega arith)
-four_or_five PeerAvailable e = (omega arith, omega arith)
-
 module _ (e : ℕ) (time : Float) (f : Bool) where
   -- the clock of a replay
   abbrev timed : Clock → Clock

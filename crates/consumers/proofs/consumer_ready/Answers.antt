@@ -3,7 +3,7 @@ use borrow.Author.Tests.{ltb-false}
 use Rattle.rules.specs.Calls.{is_ready}
 use Rattle.rules.specs.Buffers.{taken_by, short, wrong_code}
 use Rattle.session.specs.Promise.{lent}
-use Rattle.session.proofs.Entries.{stops, stopped_at, passed_at}
+use Rattle.session.proofs.Entries.{stops, stopped_at}
 use Rattle.consumers.proofs.Consumers.{ready_code, ready_spent, ready-reach}
 use Rattle.consumers.proofs.consumer_ready.Goals as goal
 
@@ -14,13 +14,3 @@ returns-in-Err c =
     stops (is_ready c.args.status c.args.mode) c.args.s (lent c.args.list.now c.args.delivery.now c.args.outbound.now c.args.queue.now)
     c.enters-entered.ensures.tested (stopped_at c.try_from-read.result c.is_err.ensures.value c.enters-entered.ensures.tested (sym c.and.ensures ∙ c.in-Err.is)) c.refused.ensures refl code (λ h. h) (λ h. h)
     (λ e k t h. (ready_spent c.args.status c.args.mode t (ltb-false _ _ (code ∙ k)) h, ready-reach c.args.status c.args.mode t))
-
-pub ready-requires : goal.ready-requires
-ready-requires c =
-    let p = (passed_at c.try_from-read.result c.is_err.ensures.value c.enters-entered.ensures.tested c.enters-entered.ensures.passed (sym c.and.ensures ∙ c.in-Ok.is)).0 in
-    record { good = p.sound; full = p.full; list = p.list; delivery = p.delivery; outbound = p.outbound; queue = p.queue; low = p.low refl }
-
-pub returns-in-Ok : goal.returns-in-Ok
-returns-in-Ok c =
-    let h = rw (passed_at c.try_from-read.result c.is_err.ensures.value c.enters-entered.ensures.tested c.enters-entered.ensures.passed (sym c.and.ensures ∙ c.in-Ok.is)).1 at c.try_from-read.ensures in
-    c.ready.ensures c.args.mode h.0 h.1

@@ -1,6 +1,5 @@
 use Rattle.handoffs.specs.Commands.{lent_command}
 use mathlib.Core.Path.{sym, ◌∙◌}
-use lib.Seq.{length-take-le}
 use Rattle.handoffs.proofs.Validates.{not_restoring, id-differs, body-differs, own-handoff}
 use Rattle.handoffs.proofs.pending.Goals as goal
 
@@ -9,9 +8,6 @@ returns-then-not-restoring c = not_restoring c.args.s c.args.list.now c.args.out
 
 pub returns-then-s-c : goal.returns-then-s-c
 returns-then-s-c c = id-differs c.args.s c.args.list.now c.args.outbound.now c.requires.1 (lent_command c.args.c) c.args.restoring (c.if-not-restoring.false) c.if-s-c.true c.refused-then-s-c.ensures
-
-pub slice_bounds-same_bytes-end : goal.slice_bounds-same_bytes-end
-slice_bounds-same_bytes-end c = sym (length-take-le c.args.s.handoff.len c.args.s.handoff.body c.requires.1.within)
 
 pub returns-then-not-same_bytes : goal.returns-then-not-same_bytes
 returns-then-not-same_bytes c = body-differs c.args.s c.args.list.now c.args.outbound.now c.requires.1 (lent_command c.args.c) c.args.restoring (c.if-not-restoring.false) c.if-s-c.false (sym c.same_bytes.ensures ∙ c.if-not-same_bytes.true) c.refused-then-not-same_bytes.ensures

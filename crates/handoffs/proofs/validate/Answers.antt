@@ -1,5 +1,3 @@
-use mathlib.Core.Path.{sym}
-use lib.Seq.{length-take-le}
 use borrow.Author.Tests.{not-true, not-false}
 use Rattle.handoffs.proofs.Validates.{unsent, still_unacked, acked, not_carried, carried}
 use Rattle.handoffs.proofs.validate.Goals as goal
@@ -12,9 +10,6 @@ returns-then-unacked_to c = still_unacked c.args.s c.args.list.now c.args.outbou
 
 pub returns-then-s : goal.returns-then-s
 returns-then-s c = acked c.args.s c.args.list.now c.args.outbound.now c.requires.1 c.unacked_to.ensures c.if-s.true (not-false _ c.if-not-s.false) c.if-unacked_to.false c.done.ensures
-
-pub slice_bounds-carried-end : goal.slice_bounds-carried-end
-slice_bounds-carried-end c = sym (length-take-le c.args.s.handoff.len c.args.s.handoff.body c.requires.1.within)
 
 pub returns-then-not-carried : goal.returns-then-not-carried
 returns-then-not-carried c = not_carried c.args.s c.args.list.now c.args.outbound.now c.requires.1 c.carried.ensures c.if-s.false (c.if-not-carried.true) c.refused-then-not-carried.ensures
