@@ -15,7 +15,7 @@ use Rattle.rules.specs.Lists.{any, has, all, rising, itself}
 use Rattle.rules.specs.Sound.{at_most, ascending}
 use Rattle.rules.proofs.Lists.{and_left, and_right}
 use Rattle.numbers.specs.Seats.{under, seat_of}
-use Rattle.numbers.proofs.Laws.{ascending-none, ascending_some}
+use Rattle.numbers.proofs.Laws.{ascending_some}
 use Rattle.parts.specs.Parts.{at, section}
 use Rattle.link_numbers.specs.Sets.{firsts}
 use Rattle.link_numbers.proofs.Sets.{section-length, section-at}
@@ -70,9 +70,6 @@ module _ (from : ℕ) (w : List ℕ) (n : ℕ) (few : n ≤ 512) (room : from + 
       let z : at (section from 512 w) 0 ≡ at w from = section-at from w 0 (omega arith) ∙ ap (at w) (omega arith) in
       subst (λ (x : ℕ). ascending (firsts from n w) ≡ rising itself x (slice 1 n (section from 512 w))) z
       (ascending_some (record { values = section from 512 w; count = n }) e few (section-length from w room))
-
-pub ascends_none : (from n : ℕ) (w : List ℕ) → n ≡ 0 → ascending (firsts from n w) ≡ true
-ascends_none from n w e = ascending-none (record { values = section from 512 w; count = n }) e
 
 -- ---- a list that ascends
 

@@ -10,11 +10,11 @@ use Rattle.rules.specs.State as R
 use Rattle.rules.specs.Commits as C
 use Rattle.rules.proofs.Events.{start-release}
 use Rattle.outbox.specs.declared.Unacked.{Unacked}
-use Rattle.outbox.specs.View.{unacked_of, unacked, blank_u, len_u}
+use Rattle.outbox.specs.View.{unacked_of, unacked, blank_u}
 use Rattle.outbox.specs.Records.{releases_u, released_u, release_u}
 use Rattle.outbox.specs.Sound.{sound_outbox_of}
 use Rattle.outbox.proofs.Flags.{release-flags}
-use Rattle.outbox.proofs.Listings.{Listing, listing_none, listing-next, listing-fits, listing-all, listed-starts}
+use Rattle.outbox.proofs.Listings.{Listing, listing_none, listing-next, listing-all, listed-starts}
 use Rattle.outbox.proofs.View.{sound_facts}
 use Rattle.parts.specs.Seats.{seats}
 use Rattle.parts.specs.Parts.{at, flag, unacked_at, outbox_in}
@@ -86,9 +86,6 @@ module _ (w h b : List ℕ) where
   module _ {p : R.Unacked → Bool} {l₀ : List ℕ} {n : ℕ} {l : List ℕ} {k from i : ℕ} (g : Listing p (outbox_in w h b) l₀ n l k from i) (lt : i < at w 1) where
     is_seat : unacked_at h b i ≡ get_or (seats 256 (unacked_at h b)) i blank_u
     is_seat = sym (get_d_seats 256 (unacked_at h b) i blank_u (omega (arith, g.sound.few)))
-
-    pub listing-body : from + at h (256 + i) ≤ 65536
-    listing-body = omega (arith, listing-fits g lt, ap len_u is_seat)
 
     -- b' are the flags as they are when the record is looked at
     pub listing-turn : (q : Unacked → Bool) → ((u : Unacked) (s : Bytes) → p (unacked u s) ≡ q u) → (b' : List ℕ) → unacked_at h b' i ≡ unacked_at h b i

@@ -25,23 +25,11 @@ use Rattle.parts.specs.Seats.{seats}
 use Rattle.parts.specs.Parts.{at, unacked_at, outbox_in}
 use Rattle.parts.proofs.Seats.{length-seats, seats_of, take-seats}
 use Rattle.link_outbox.specs.Tests.{stayer, Bounded}
-use Rattle.link_moves.specs.Moves.{Lowered}
 use Rattle.link_outbox.specs.Steps.{Drops, Shifted, Front}
 use Rattle.link_outbox.proofs.Sounds.{used-at, used-length, total-same, take-total}
 use Rattle.link_outbox.proofs.Sweeps.{Sweeps, dropped}
 
 -- ---- both sections are moved down
-
-pub shifted : (k n : ℕ) (l m l' : List ℕ) → k + n ≤ 256 → Lowered 0 k n l m → Lowered 256 (256 + k) n m l' → Shifted k n l l'
-shifted k n l m l' few p q =
-    record {
-      front = λ i h. q.below i 0 (omega arith) ∙ ap (at m) (sym (zero-add i)) ∙ p.moved i 0 h;
-      back = λ i h. q.moved i 0 h ∙ p.above (256 + k + i) 0 (omega arith) ∙ ap (at l) (regroup i);
-      past = record { size = q.size ∙ p.size; same = λ i h. q.above i 0 (omega arith) ∙ p.above i 0 (omega arith) };
-    }
-  where
-    regroup : (i : ℕ) → 256 + k + i ≡ 256 + (k + i)
-    regroup i = omega arith
 
 pub shifted_same : (n : ℕ) (l : List ℕ) → Shifted 0 n l l
 shifted_same n l =
@@ -259,8 +247,3 @@ module _ (ack : ℕ) (w h b : List ℕ) (s : Bytes) (exact : ExactOutbox (outbox
       (placed_same s 0 T room ∙ ap (λ (j : ℕ). placed s 0 (take j (drop 0 s))) (sym m))
       (sym (ap (λ (j : ℕ). placed s (T - 0) (replicate j 0)) z ∙ placed-none s (T - 0))) in
       subst (λ (x : List ℕ). Drops ack w h b s x h b s) (ap (set w 1) n ∙ set-get_or w 1 0) r
-
-  -- as many stay of the last as in all
-  pub front_of : (stay gone later : ℕ) → stay ≡ total (stayer ack) (slice 0 (at w 1) (seats 256 (unacked_at h b))) → gone ≡ at w 1 - stay
-      → later ≡ total (stayer ack) (slice gone (at w 1) (seats 256 (unacked_at h b))) → later ≡ stay → Front ack gone w h b
-  front_of stay gone later es eg el e = record { all = omega (arith, stay-within); later = sym el ∙ e ∙ es }

@@ -10,8 +10,8 @@ use native.Mathlib.Nat.{eq-or-lt_of_le}
 use mathlib.Core.Logic.{⊎_elim}
 use lib.ListN.{length, take, get_or}
 use lib.Seq.{slice, get_or-take, length-take-le}
-use lib.Dec.{eqb, ltb, leb}
-use borrow.Author.Tests.{eqb-true, le-leb, lt-leb, lt-ltb, ltb-false, ltb-true}
+use lib.Dec.{ltb, leb}
+use borrow.Author.Tests.{le-leb, lt-leb, lt-ltb, ltb-false, ltb-true}
 use Rattle.rules.specs.Lists.{all, total, rising}
 use Rattle.rules.proofs.Lists.{and_left, and_right, and_both}
 use Rattle.stores.proofs.Packs.{slice-none}
@@ -119,37 +119,6 @@ falls_more h b i n sum r t few k e s =
     omega (arith, falls-step (unacked_at h b) i n (at h (i - 1)) k few)
 
 -- ---- numbers that follow one another
-
-pub same-few : (a b : ℕ) → (if eqb a b then 1 else 0) ≤ 1
-same-few a b = go (eqb a b)
-  where
-    go : (t : Bool) → (if t then 1 else 0) ≤ 1
-    go true = omega arith
-    go false = omega arith
-
-same-is : (a b : ℕ) → ◌≡◌ {A = ℕ} (if eqb a b then 1 else 0) 1 → a ≡ b
-same-is a b h = go (eqb a b) (eqb-true a b) h
-  where
-    go : (t : Bool) → (t ≡ true → a ≡ b) → ◌≡◌ {A = ℕ} (if t then 1 else 0) 1 → a ≡ b
-    go true f e = f refl
-    go false f e = absurd (omega arith)
-
-pub steps_more : (h : List ℕ) (first i sum r : ℕ) → sum ≤ i → (sum ≡ i → Steps h first i) → r ≡ (if eqb (at h i) (first + i) then 1 else 0)
-    → sum + r ≡ i + 1 → Steps h first (i + 1)
-steps_more h first i sum r few so e all j k =
-    let o : r ≤ 1 = omega (arith, same-few (at h i) (first + i)) in
-    let here : at h i ≡ first + i = same-is (at h i) (first + i) (sym e ∙ one o) in
-    let s : Steps h first i = so (omega arith) in
-    ⊎_elim (λ (x : j ≡ i). ap (at h) x ∙ here ∙ ap (λ (n : ℕ). first + n) (sym x)) (λ (x : j < i). s j x) (eq-or-lt_of_le (upto j k))
-  where
-    one : r ≤ 1 → r ≡ 1
-    one o = omega arith
-
-    upto : (j : ℕ) → j < i + 1 → j ≤ i
-    upto j k = omega arith
-
-pub steps_all : (h : List ℕ) (first i n sum : ℕ) → i ≤ n → n ≤ i → (sum ≡ i → Steps h first i) → sum ≡ n → Steps h first n
-steps_all h first i n sum p q so e j k = so (omega arith) j (omega arith)
 
 -- they rise
 pub steps_rise : (h b : List ℕ) (first n : ℕ) → n ≤ 256 → Steps h first n → (m i : ℕ) → 1 ≤ i → i + m ≡ n

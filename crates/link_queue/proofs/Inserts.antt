@@ -13,7 +13,7 @@ use Rattle.rules.specs.State as R
 use Rattle.rules.specs.State.{frame_number}
 use Rattle.queue.specs.declared.Queued.{Queued}
 use Rattle.queue.specs.declared.Queue.{Queue}
-use Rattle.queue.specs.View.{record_q, used_q, end_q, frames_of}
+use Rattle.queue.specs.View.{record_q, used_q, frames_of}
 use Rattle.queue.specs.Steps.{arrived, Leads, Room, Enters, with_at}
 use Rattle.queue.proofs.View.{frames-length, frames-records, repacked_as, put_is}
 use Rattle.queue.proofs.Changes.{inserted, none_left}
@@ -23,7 +23,7 @@ use Rattle.parts.proofs.Seats.{length-seats, seats-same, take-seats}
 use Rattle.link_moves.specs.Moves.{Raised}
 use Rattle.link_queue.specs.Frames.{OnlyQueue}
 use Rattle.link_queue.specs.Steps.{bodies, Requeued}
-use Rattle.link_queue.specs.Joins.{Joins, Joined}
+use Rattle.link_queue.specs.Joins.{Joined}
 use Rattle.link_queue.proofs.Sums.{start-bodies, end-bodies}
 use Rattle.link_queue.proofs.Records.{only_same, recast}
 
@@ -185,16 +185,6 @@ module _ (w h b : List ℕ) (q : Bytes) (number kind : ℕ) (body : Bytes) (r : 
     whole =
         ap (λ (xs : List R.Frame). xs ++ (a ∷ drop k fs)) (take_all k fs (omega (arith, frames-length (queue_in w h b) q r.exact)))
         ∙ ap (λ (xs : List R.Frame). fs ++ (a ∷ xs)) (ap (λ (j : ℕ). drop j fs) last ∙ none_left (queue_in w h b) q r.exact)
-
-    pub joins-last : (end : ℕ) → end ≡ end_q (queue_in w h b) → length w ≡ 1296 → length h ≡ 772 → length b ≡ 4936 → Joins w h b (length q) end (length body)
-    joins-last end e lw lh lb =
-        record {
-          room = record { exact = r.exact; within = omega arith; free = r.free; short = r.short };
-          is = e;
-          words = lw;
-          halves = lh;
-          bytes = lb;
-        }
 
     pub put_last : (w' h' b' : List ℕ) (q' : Bytes) → Joined number kind body w h b q w' h' b' q'
         → Requeued (put frame_number (arrived number kind body) (frames_of (queue_in w h b) q)) w h b q w' h' b' q'

@@ -39,11 +39,6 @@ bodies-small h n i s l =
     let z : bodies h (i + 1 + (n - (i + 1))) ≡ bodies h n = ap (bodies h) (omega arith) in
     omega (arith, grows h (i + 1) (n - (i + 1)), bodies_more h i, s.small)
 
-pub bodies-within : (h : List ℕ) (n i : ℕ) → Summing h n → i ≤ n → bodies h i ≤ 32768
-bodies-within h n i s l =
-    let z : bodies h (i + (n - i)) ≡ bodies h n = ap (bodies h) (omega arith) in
-    omega (arith, grows h i (n - i), s.small)
-
 module _ (w h b : List ℕ) where
   front-bodies : (k : ℕ) → k ≤ 256 → total len_q (take k (seats 256 (queued_at w h b))) ≡ bodies h k
   front-bodies k l =

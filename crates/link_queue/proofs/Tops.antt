@@ -68,13 +68,6 @@ module _ (w h b : List ℕ) (q : Bytes) (ex : ExactQueue (queue_in w h b) (lengt
 
 -- ---- a number above the last
 
-module _ (n : ℕ) (w : List ℕ) where
-  pub below_none : at w 4 ≡ 0 → Below n w
-  below_none e = record { each = λ i l. absurd (omega (arith, e, l)) }
-
-  pub below_top : Topped w → at w (15 + at w 4) < n → Below n w
-  below_top t l = record { each = λ i k. omega (arith, t.top i k, l) }
-
 none-seats : {A : Type 0} (p : A → Bool) (n : ℕ) (f : ℕ → A) → ((i : ℕ) → i < n → p (f i) ≡ false) → any p (seats n f) ≡ false
 unfolding any seats
 none-seats p zero f h = refl

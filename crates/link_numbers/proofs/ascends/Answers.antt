@@ -1,6 +1,6 @@
 use mathlib.Core.Path.{sym, ◌∙◌}
 use native.Mathlib.Omega.{arith}
-use Rattle.link_numbers.proofs.Asked.{ascends_none, ascends_some}
+use Rattle.link_numbers.proofs.Asked.{ascends_some}
 use Rattle.link_numbers.proofs.ascends.Goals as goal
 
 pub returns : goal.returns

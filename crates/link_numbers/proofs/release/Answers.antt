@@ -1,10 +1,8 @@
 use Prim.Native.Nat.{◌+◌}
-use native.Mathlib.Omega.{arith}
 use mathlib.Core.Path.{◌∙◌}
 use lib.Dec.{ltb}
 use Rattle.parts.specs.Parts.{at}
 use Rattle.parts.proofs.Flags.{as_number}
-use Rattle.numbers.proofs.Passes.{step_small}
 use Rattle.link_numbers.proofs.Changes.{releasing_in, releasing_on, released}
 use Rattle.link_numbers.proofs.release.Goals as goal
 

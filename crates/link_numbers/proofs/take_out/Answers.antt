@@ -1,10 +1,8 @@
 use Prim.Native.Nat.{◌+◌}
-use native.Mathlib.Omega.{arith}
 use mathlib.Core.Path.{◌∙◌}
 use Rattle.rules.specs.Acks.{differs_from}
 use Rattle.parts.specs.Parts.{at}
 use Rattle.parts.proofs.Flags.{as_number}
-use Rattle.numbers.proofs.Passes.{step_small}
 use Rattle.link_numbers.proofs.Changes.{sifting_none, sifting_more, sifted_out}
 use Rattle.link_numbers.proofs.take_out.Goals as goal
 

@@ -2,8 +2,7 @@ use mathlib.Core.Path.{refl}
 use native.Mathlib.Omega.{arith}
 use Rattle.rules.specs.Commits as R
 use Rattle.outbox.specs.Records.{releases_u}
-use Rattle.outbox.proofs.Listings.{listing-room}
-use Rattle.link_outbox.proofs.Frees.{freeing_none, freeing_more, listing_start, listing-body, listing-turn, frees}
+use Rattle.link_outbox.proofs.Frees.{freeing_none, freeing_more, listing_start, listing-turn, frees}
 use Rattle.link_outbox.proofs.release.Goals as goal
 
 pub loop-i-init : goal.loop-i-init

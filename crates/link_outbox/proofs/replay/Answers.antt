@@ -1,10 +1,8 @@
 use mathlib.Core.Path.{refl, sym}
-use native.Mathlib.Omega.{arith}
 use Rattle.rules.specs.Replay.{not_pending}
 use Rattle.outbox.specs.Records.{not_pending_u}
-use Rattle.outbox.proofs.Listings.{listing-room}
 use Rattle.outbox.proofs.Commits.{replayed}
-use Rattle.link_outbox.proofs.Frees.{not_not, listing_start, listing-body, listing-turn}
+use Rattle.link_outbox.proofs.Frees.{not_not, listing_start, listing-turn}
 use Rattle.link_outbox.proofs.replay.Goals as goal
 
 pub loop-i-init : goal.loop-i-init

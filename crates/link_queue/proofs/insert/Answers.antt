@@ -1,5 +1,4 @@
-use native.Mathlib.Omega.{arith}
-use Rattle.link_queue.proofs.Inserts.{room_for, put-at, joins-last, put_last}
+use Rattle.link_queue.proofs.Inserts.{room_for, put-at, put_last}
 use Rattle.link_queue.proofs.Tops.{leads_below}
 use mathlib.Core.Path.{refl}
 use Rattle.link_queue.proofs.insert.Goals as goal
