@@ -8,8 +8,7 @@ use lib.ListN.{length, take, get_or, set, length-set}
 use lib.Seq.{get_or-set_same, get_or-set_other}
 use Rattle.rules.specs.Lists.{Bytes, total, itself}
 use Rattle.rules.specs.Buffers.{repacked}
-use Rattle.stores.proofs.Laws.{take-placed-end}
-use Rattle.stores.proofs.Runs.{Run, run_none, run_more, run-all}
+use Rattle.stores.proofs.Runs.{Run, run_none, run_more}
 use Rattle.outbox.specs.declared.Unacked.{Unacked}
 use Rattle.outbox.specs.View.{len_u, blank_u, end_u}
 use Rattle.starts.specs.declared.Reliable.{Reliable}
@@ -68,21 +67,6 @@ module _ {ns ks h₀ b₀ h b : List ℕ} {i : ℕ} (g : Writing ns ks h₀ b₀
         has-bytes = length-set (set b i 0) (256 + i) 0 ∙ length-set b i 0 ∙ g.has-bytes;
         halves = then_past g.halves (twice_past h i (get_or ns i 0) (get_or ks i 0) k);
         bytes = then_past g.bytes (twice_past b i 0 0 k);
-      }
-
-  pub writing_all : length ns ≤ i → Written ns ks h₀ b₀ h b
-  writing_all l =
-      let size : length (records_of ns ks) ≡ length ns = g.run.size in
-      let full : length (seats 256 (unacked_at h₀ b₀)) ≡ 256 = length-seats 256 (unacked_at h₀ b₀) in
-      let room : 0 + length (records_of ns ks) ≤ length (seats 256 (unacked_at h₀ b₀)) = omega (arith, g.fitting.few) in
-      let e : length ns ≡ 0 + length (records_of ns ks) = omega arith in
-      record {
-        used =
-            ap (λ (k : ℕ). take k (seats 256 (unacked_at h b))) e
-            ∙ ap (λ (us : List Unacked). take (0 + length (records_of ns ks)) us) (run-all g.run l)
-            ∙ take-placed-end (seats 256 (unacked_at h₀ b₀)) 0 (records_of ns ks) room;
-        halves = g.halves;
-        bytes = g.bytes;
       }
 
 -- ---- the record is taken

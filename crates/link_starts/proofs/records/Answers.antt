@@ -1,6 +1,6 @@
 use native.Mathlib.Omega.{arith}
 use Rattle.starts.proofs.Slices.{length-small}
-use Rattle.link_starts.proofs.Messages.{writing_none, writing_more, writing_all}
+use Rattle.link_starts.proofs.Messages.{writing_none, writing_more}
 use Rattle.link_starts.proofs.records.Goals as goal
 
 pub loop-i-init : goal.loop-i-init
@@ -11,4 +11,3 @@ overflow_cast-halves-in-loop-i c = omega (arith, length-small _ _ c.loop-i.i c.l
 
 pub loop-i-preserved : goal.loop-i-preserved
 loop-i-preserved c = writing_more c.loop-i.invariant c.loop-i-test.true
-
