@@ -9,7 +9,7 @@ use lib.Ieee.{Float}
 use lib.ListN.{length, set, length-set}
 use lib.Seq.{get_or-set_same}
 use lib.Dec.{leb, eqb}
-use borrow.Author.Tests.{eq-eqb, ne_eqb, le-leb}
+use borrow.Author.Tests.{le-leb}
 use Rattle.rules.specs.declared.Answer.TheVariants.{Flag, Refused}
 use Rattle.rules.specs.declared.Refusal.{Refusal}
 use Rattle.rules.specs.declared.ReceiveMode.TheVariants.{Raw, Proposal, Channel, Rejection, Retiring}
@@ -62,19 +62,6 @@ module _ (g : StageCodes) (good : good_codes g ≡ true) where
 
   raw_is : eqb g.mode 0 ≡ is_raw (stage_of g).mode
   raw_is = raw_if (eqb g.mode 0) (eqb g.mode 1) (eqb g.mode 2) (eqb g.mode 3) ∙ ap (λ (s : Stage). is_raw s.mode) (stage-good g good refl refl)
-
--- ---- small steps
-
-module _ (a b g : ℕ) where
-  pub raised_not : a ≡ b → g ≡ raised_if (eqb a b) g
-  raised_not e = rw (eq-eqb a b e)
-
-  pub raised-one : (a ≡ b → ⊥) → g + 1 ≡ raised_if (eqb a b) g
-  raised-one e = rw (ne_eqb a b e)
-
--- whether a rejection is complete
-pub complete-left : (d : ℕ) (x : Bool) → d ≡ 4 → x ≡ (eqb d 4 && x)
-complete-left d x e = rw (eq-eqb d 4 e)
 
 -- ---- what is left
 

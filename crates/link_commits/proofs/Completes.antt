@@ -12,7 +12,7 @@ use Rattle.rules.specs.declared.PreparedCommit.{PreparedCommit}
 use Rattle.rules.specs.declared.Refusal.{Refusal}
 use Rattle.rules.specs.declared.Refusal.TheVariants.{ShortBuffer, BadRecord, CommitNumber}
 use Rattle.rules.specs.Calls.{prepares, completes}
-use Rattle.std.specs.Prelude.{Result, Ok, Err}
+use Rattle.std.specs.Prelude.{Result, Err}
 use Rattle.events.specs.Written.{Listed}
 use Rattle.outbox.specs.Sound.{sound_outbox_of}
 use Rattle.outbox.proofs.View.{sound_facts}
@@ -49,10 +49,6 @@ module _ (p : Parts) {n : ℕ} (c : PreparedCommit) where
 
       pub remote-past : c.outbound ≤ 18446744073709551614 → 18446744073709551614 < c.remote → Turns p n c CommitNumber
       remote-past ho h = record { call = λ b l e r t. C.remote_refused c b (opened_of p) l (omega (arith, e)) sound full ho t h }
-
--- what they found
-pub found-ready : (p : Parts) (n : ℕ) (c : PreparedCommit) (r : Result (Unit {0}) Refusal) → r ≡ Ok tt → Found p n c r → Ready p n c
-found-ready p n c r e f = subst (λ (r : Result (Unit {0}) Refusal). Found p n c r) e f
 
 pub turned : (p : Parts) (l : List ℕ) (c : PreparedCommit) (b : Bool) (r : Result (Unit {0}) Refusal) (x : Refusal) → r ≡ Err x → Found p (length l) c r
     → {y : LinkAnswer} → y ≡ answer_of (Refused x) 0 → Driven p p y (λ s r. CalledWithList (completes c b) s l r l)
