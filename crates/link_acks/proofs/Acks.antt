@@ -9,7 +9,7 @@ use lib.Ieee.{Float}
 use lib.ListN.{length, set, length-set}
 use lib.Seq.{get_or-set_same}
 use lib.Dec.{leb, eqb}
-use borrow.Author.Tests.{eq-eqb, ne_eqb, le-leb}
+use borrow.Author.Tests.{le-leb}
 use Rattle.rules.specs.declared.Answer.TheVariants.{Flag, Refused}
 use Rattle.rules.specs.declared.Refusal.{Refusal}
 use Rattle.rules.specs.declared.ReceiveMode.TheVariants.{Raw, Proposal, Channel, Rejection, Retiring}
@@ -63,9 +63,6 @@ module _ (g : StageCodes) (good : good_codes g ≡ true) where
   raw_is : eqb g.mode 0 ≡ is_raw (stage_of g).mode
   raw_is = raw_if (eqb g.mode 0) (eqb g.mode 1) (eqb g.mode 2) (eqb g.mode 3) ∙ ap (λ (s : Stage). is_raw s.mode) (stage-good g good refl refl)
 
--- ---- small steps
-
-module _ (a b g : ℕ) where
 -- ---- what is left
 
 module _ (w h b : List ℕ) (t : Float) (lh : length h ≡ 772) (lw : 1296 ≤ length w) (lb : 4936 ≤ length b) (w' h' b' : List ℕ) (left : ℕ) (words : w' ≡ set w 1 left)

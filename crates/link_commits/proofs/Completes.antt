@@ -12,7 +12,7 @@ use Rattle.rules.specs.declared.PreparedCommit.{PreparedCommit}
 use Rattle.rules.specs.declared.Refusal.{Refusal}
 use Rattle.rules.specs.declared.Refusal.TheVariants.{ShortBuffer, BadRecord, CommitNumber}
 use Rattle.rules.specs.Calls.{prepares, completes}
-use Rattle.std.specs.Prelude.{Result, Ok, Err}
+use Rattle.std.specs.Prelude.{Result, Err}
 use Rattle.events.specs.Written.{Listed}
 use Rattle.outbox.specs.Sound.{sound_outbox_of}
 use Rattle.outbox.proofs.View.{sound_facts}

@@ -15,7 +15,7 @@ use Rattle.rules.specs.Lists.{any, has, all, rising, itself}
 use Rattle.rules.specs.Sound.{at_most, ascending}
 use Rattle.rules.proofs.Lists.{and_left, and_right}
 use Rattle.numbers.specs.Seats.{under, seat_of}
-use Rattle.numbers.proofs.Laws.{ascending-none, ascending_some}
+use Rattle.numbers.proofs.Laws.{ascending_some}
 use Rattle.parts.specs.Parts.{at, section}
 use Rattle.link_numbers.specs.Sets.{firsts}
 use Rattle.link_numbers.proofs.Sets.{section-length, section-at}

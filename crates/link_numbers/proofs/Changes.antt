@@ -26,7 +26,7 @@ use Rattle.numbers.proofs.Laws.{put-at-is, put_old, put-room, put-new, seat_with
 use Rattle.numbers.proofs.Passes.{sifted_holds, Releasing, releasing_none, releasing_more, releasing_all, ListingAll, all_more}
 use Rattle.parts.specs.Parts.{at, section, numbers_in}
 use Rattle.parts.specs.Frames.{Only}
-use Rattle.link_numbers.specs.Sets.{Set, Lies, Rising, Becomes, Releases}
+use Rattle.link_numbers.specs.Sets.{Set, Rising, Becomes, Releases}
 use Rattle.link_numbers.proofs.Sets.{section-room, section-length, section-at, section-set, section-before, only_none, only-number, only-count}
 
 -- words where only a set changes. `few` and `room` are there for `omega`
@@ -224,9 +224,6 @@ module _ (from : ℕ) (w : List ℕ) {size : ℕ} {list₀ : List ℕ} {n : ℕ}
 -- ---- a set that rises, with a number put
 
 module _ {from count : ℕ} {w : List ℕ} (r : Rising from count w) where
-  pub lies : Lies from (at w count) w
-  lies = record { within = r.set.within; room = section-room from w r.set.exact.full; few = r.set.exact.few }
-
   module _ (n k : ℕ) (e : k ≡ seat_of n (in_use (numbers_in from count w))) where
     abbrev v : Numbers
     v = numbers_in from count w

@@ -10,7 +10,7 @@ use Rattle.rules.specs.State as R
 use Rattle.rules.specs.Commits as C
 use Rattle.rules.proofs.Events.{start-release}
 use Rattle.outbox.specs.declared.Unacked.{Unacked}
-use Rattle.outbox.specs.View.{unacked_of, unacked, blank_u, len_u}
+use Rattle.outbox.specs.View.{unacked_of, unacked, blank_u}
 use Rattle.outbox.specs.Records.{releases_u, released_u, release_u}
 use Rattle.outbox.specs.Sound.{sound_outbox_of}
 use Rattle.outbox.proofs.Flags.{release-flags}

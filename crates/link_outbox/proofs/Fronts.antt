@@ -25,7 +25,6 @@ use Rattle.parts.specs.Seats.{seats}
 use Rattle.parts.specs.Parts.{at, unacked_at, outbox_in}
 use Rattle.parts.proofs.Seats.{length-seats, seats_of, take-seats}
 use Rattle.link_outbox.specs.Tests.{stayer, Bounded}
-use Rattle.link_moves.specs.Moves.{Lowered}
 use Rattle.link_outbox.specs.Steps.{Drops, Shifted, Front}
 use Rattle.link_outbox.proofs.Sounds.{used-at, used-length, total-same, take-total}
 use Rattle.link_outbox.proofs.Sweeps.{Sweeps, dropped}

@@ -10,8 +10,8 @@ use native.Mathlib.Nat.{eq-or-lt_of_le}
 use mathlib.Core.Logic.{⊎_elim}
 use lib.ListN.{length, take, get_or}
 use lib.Seq.{slice, get_or-take, length-take-le}
-use lib.Dec.{eqb, ltb, leb}
-use borrow.Author.Tests.{eqb-true, le-leb, lt-leb, lt-ltb, ltb-false, ltb-true}
+use lib.Dec.{ltb, leb}
+use borrow.Author.Tests.{le-leb, lt-leb, lt-ltb, ltb-false, ltb-true}
 use Rattle.rules.specs.Lists.{all, total, rising}
 use Rattle.rules.proofs.Lists.{and_left, and_right, and_both}
 use Rattle.stores.proofs.Packs.{slice-none}

@@ -13,7 +13,7 @@ use Rattle.rules.specs.State as R
 use Rattle.rules.specs.State.{frame_number}
 use Rattle.queue.specs.declared.Queued.{Queued}
 use Rattle.queue.specs.declared.Queue.{Queue}
-use Rattle.queue.specs.View.{record_q, used_q, end_q, frames_of}
+use Rattle.queue.specs.View.{record_q, used_q, frames_of}
 use Rattle.queue.specs.Steps.{arrived, Leads, Room, Enters, with_at}
 use Rattle.queue.proofs.View.{frames-length, frames-records, repacked_as, put_is}
 use Rattle.queue.proofs.Changes.{inserted, none_left}
@@ -23,7 +23,7 @@ use Rattle.parts.proofs.Seats.{length-seats, seats-same, take-seats}
 use Rattle.link_moves.specs.Moves.{Raised}
 use Rattle.link_queue.specs.Frames.{OnlyQueue}
 use Rattle.link_queue.specs.Steps.{bodies, Requeued}
-use Rattle.link_queue.specs.Joins.{Joins, Joined}
+use Rattle.link_queue.specs.Joins.{Joined}
 use Rattle.link_queue.proofs.Sums.{start-bodies, end-bodies}
 use Rattle.link_queue.proofs.Records.{only_same, recast}
 

@@ -68,7 +68,6 @@ module _ (w h b : List ℕ) (q : Bytes) (ex : ExactQueue (queue_in w h b) (lengt
 
 -- ---- a number above the last
 
-module _ (n : ℕ) (w : List ℕ) where
 none-seats : {A : Type 0} (p : A → Bool) (n : ℕ) (f : ℕ → A) → ((i : ℕ) → i < n → p (f i) ≡ false) → any p (seats n f) ≡ false
 unfolding any seats
 none-seats p zero f h = refl

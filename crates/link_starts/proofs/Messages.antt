@@ -8,8 +8,7 @@ use lib.ListN.{length, take, get_or, set, length-set}
 use lib.Seq.{get_or-set_same, get_or-set_other}
 use Rattle.rules.specs.Lists.{Bytes, total, itself}
 use Rattle.rules.specs.Buffers.{repacked}
-use Rattle.stores.proofs.Laws.{take-placed-end}
-use Rattle.stores.proofs.Runs.{Run, run_none, run_more, run-all}
+use Rattle.stores.proofs.Runs.{Run, run_none, run_more}
 use Rattle.outbox.specs.declared.Unacked.{Unacked}
 use Rattle.outbox.specs.View.{len_u, blank_u, end_u}
 use Rattle.starts.specs.declared.Reliable.{Reliable}

@@ -62,9 +62,6 @@ module _ (x : Reliable) (ns ks : List ℕ) (bodies : Bytes) (policy : Policy) (r
 -- what the tests found, by their stop
 module _ (x : Reliable) (ns ks : List ℕ) (bodies : Bytes) (policy : Policy) (reject : Bytes) {n m : ℕ} {stop : Result (Unit {0}) Refusal}
     (f : FoundStart x ns ks bodies policy reject n m stop) where
-  pub passed : stop ≡ Ok tt → Judged x ns ks bodies policy reject n m
-  passed e = subst (λ (s : Result (Unit {0}) Refusal). FoundStart x ns ks bodies policy reject n m s) e f
-
   pub away : (z : Refusal) → stop ≡ Err z → NotGood x ns ks bodies policy reject n m z
   away z e = subst (λ (s : Result (Unit {0}) Refusal). FoundStart x ns ks bodies policy reject n m s) e f
 

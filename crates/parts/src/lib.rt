@@ -3,6 +3,7 @@
 //
 // Each call has two forms, by value and in place (`link_*`): by value is the port that is compared with the Rust, in place is what C links, without a moved
 // array; they share every rule, promise and law. In both a list and its count are two parameters, as events::emit says.
+// Counts are kept in words and halves: there and back it is `as`, since usize has `From` of neither, and they none of it.
 #![tactic(auto)]
 
 ghost use Rattle.std.specs.Prelude.{◌≡◌};

@@ -1,7 +1,6 @@
 -- `link_commits::enters` meets its contract, test by test. Assumes nothing.
 use mathlib.Core.Path.{◌≡◌, sym, ◌∙◌}
 use mathlib.Core.Bool.{true}
-use native.Mathlib.Omega.{arith}
 use lib.Ieee.{Float}
 use Rattle.peer_session.specs.Sound.{sound_of}
 use Rattle.parts.specs.Parts.{parts, opened_of}
@@ -19,4 +18,3 @@ returns-then-commit-gt-LAST_REMOTE c = let is-sound : (t : Float) → sound_of (
 
 pub returns-then-commit-gt-LAST_REMOTE-2 : goal.returns-then-commit-gt-LAST_REMOTE-2
 returns-then-commit-gt-LAST_REMOTE-2 c = let is-sound : (t : Float) → sound_of (opened_of (parts c.args.words.now c.args.halves.now c.args.bytes.now t)) ≡ true = λ t. sym (c.sound.ensures t).is ∙ c.if-not-sound.false in λ t. remote-past (parts c.args.words.now c.args.halves.now c.args.bytes.now t) c.args.commit c.if-list-lt-EVENT_WORDS.false (is-sound t) (c.sound.ensures t).full c.if-commit-gt-LAST_REMOTE.false c.if-commit-gt-LAST_REMOTE-2.true
-

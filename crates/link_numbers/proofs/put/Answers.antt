@@ -1,5 +1,5 @@
 use native.Mathlib.Omega.{arith}
-use Rattle.link_numbers.proofs.Changes.{lies, put-stays, put-fits, put-comes}
+use Rattle.link_numbers.proofs.Changes.{put-stays, put-fits, put-comes}
 use Rattle.link_numbers.proofs.put.Goals as goal
 
 pub returns-then-words-from : goal.returns-then-words-from

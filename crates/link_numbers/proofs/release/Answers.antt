@@ -1,5 +1,4 @@
 use Prim.Native.Nat.{◌+◌}
-use native.Mathlib.Omega.{arith}
 use mathlib.Core.Path.{◌∙◌}
 use lib.Dec.{ltb}
 use Rattle.parts.specs.Parts.{at}

@@ -1,5 +1,5 @@
 use native.Mathlib.Omega.{arith}
-use mathlib.Core.Path.{refl, sym, ◌∙◌}
+use mathlib.Core.Path.{sym, ◌∙◌}
 use Rattle.rules.specs.Lists.{itself}
 use Rattle.stores.proofs.Scans.{rises-none}
 use Rattle.parts.specs.Parts.{section}

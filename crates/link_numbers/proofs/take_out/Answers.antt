@@ -1,5 +1,4 @@
 use Prim.Native.Nat.{◌+◌}
-use native.Mathlib.Omega.{arith}
 use mathlib.Core.Path.{◌∙◌}
 use Rattle.rules.specs.Acks.{differs_from}
 use Rattle.parts.specs.Parts.{at}

@@ -8,4 +8,3 @@ use Rattle.link_outbox.proofs.lower_if.Goals as goal
 
 pub returns-then-to-from : goal.returns-then-to-from
 returns-then-to-from c = let a = c.args in lowered a.stays a.to a.from a.n a.store.now (c.if-not-stays.false) (placed_same a.store.now a.to a.n (search rules) ∙ ap (λ (k : ℕ). placed a.store.now a.to (take a.n (drop k a.store.now))) c.if-to-from.true)
-

@@ -1,5 +1,4 @@
 use mathlib.Core.Path.{refl, sym}
-use native.Mathlib.Omega.{arith}
 use Rattle.rules.specs.Replay.{not_pending}
 use Rattle.outbox.specs.Records.{not_pending_u}
 use Rattle.outbox.proofs.Commits.{replayed}

@@ -1,5 +1,4 @@
-use mathlib.Core.Path.{sym}
-use Rattle.outbox.proofs.Listings.{sends, sends_not}
+use Rattle.outbox.proofs.Listings.{sends_not}
 use Rattle.link_outbox.proofs.send_if.Goals as goal
 
 pub returns : goal.returns

@@ -1,5 +1,4 @@
 use native.Mathlib.Omega.{arith}
-use borrow.Author.Rules.{rules}
 use Rattle.parts.specs.Parts.{unacked_at}
 use Rattle.link_outbox.specs.Tests.{stayer}
 use Rattle.link_outbox.proofs.Sounds.{total-seats, total-end}

@@ -1,4 +1,3 @@
-use native.Mathlib.Omega.{arith}
 use Rattle.link_queue.proofs.Inserts.{room_for, put-at, put_last}
 use Rattle.link_queue.proofs.Tops.{leads_below}
 use mathlib.Core.Path.{refl}

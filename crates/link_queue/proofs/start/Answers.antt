@@ -1,6 +1,5 @@
-use mathlib.Core.Path.{◌≡◌, sym, ap, ◌∙◌}
+use mathlib.Core.Path.{sym}
 use native.Mathlib.Omega.{arith}
-use Rattle.link_queue.specs.Steps.{bodies}
 use Rattle.link_queue.proofs.Sums.{bodies-none, bodies_more, bodies-small}
 use Rattle.link_queue.proofs.start.Goals as goal
 
@@ -16,4 +15,3 @@ pub loop-i-preserved : goal.loop-i-preserved
 loop-i-preserved c =
     let l = c.loop-i in
     (l.invariant.0, omega arith, omega (arith, l.invariant, bodies_more c.args.halves.now l.i))
-

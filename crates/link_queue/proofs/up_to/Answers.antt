@@ -1,7 +1,5 @@
-use mathlib.Core.Path.{refl}
 use native.Mathlib.Omega.{arith}
 use Rattle.parts.specs.Parts.{at}
-use borrow.Author.Count.{below_none, below_more}
 use Rattle.link_queue.proofs.Finds.{leads_some, leads_all}
 use Rattle.link_queue.proofs.up_to.Goals as goal
 

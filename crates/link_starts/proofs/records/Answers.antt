@@ -11,4 +11,3 @@ overflow_cast-halves-in-loop-i c = omega (arith, length-small _ _ c.loop-i.i c.l
 
 pub loop-i-preserved : goal.loop-i-preserved
 loop-i-preserved c = writing_more c.loop-i.invariant c.loop-i-test.true
-

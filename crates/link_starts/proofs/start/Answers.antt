@@ -1,5 +1,5 @@
 use Rattle.parts.specs.Parts.{parts}
-use Rattle.link_starts.proofs.Starts.{passed, away, turned}
+use Rattle.link_starts.proofs.Starts.{away, turned}
 use Rattle.link_starts.proofs.start.Goals as goal
 
 pub starts_it-requires : goal.starts_it-requires
