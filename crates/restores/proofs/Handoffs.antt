@@ -21,7 +21,6 @@ use Rattle.stores.proofs.Laws.{length-placed}
 use Rattle.peer_session.specs.declared.TerminalHandoff.{TerminalHandoff}
 use Rattle.peer_session.specs.declared.SessionState.{SessionState}
 use Rattle.peer_session.specs.View.{handoff_of, handoff_length, state_of}
-use Rattle.peer_session.specs.New.{NoHandoff}
 use Rattle.session.specs.declared.Returned.{Returned}
 use Rattle.session.specs.Promise.{Turned}
 use Rattle.setup.proofs.Steps.{turned_is}
@@ -81,9 +80,6 @@ module _ (h : TerminalHandoff) (given : Handoff) (b : Bytes) where
 -- ---- the one given
 
 module _ (given : Handoff) (b : Bytes) where
-  pub handed-none : {r : TerminalHandoff} → given.present ≡ false → NoHandoff r → Handed given b r
-  handed-none e n = record { is = rw (n.absent, e) refl; full = n.full; size = rw n.absent (omega arith) }
-
   module _ (present : given.present ≡ true) (small : handoff_size (handoff_given given b) ≤ 4096) where
     pub short : length b ≤ 4096
     short = rw present at small
