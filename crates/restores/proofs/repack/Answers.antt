@@ -1,15 +1,8 @@
-use mathlib.Core.Path.{◌≡◌, sym}
-use native.Mathlib.Omega.{arith}
+use mathlib.Core.Path.{◌≡◌}
 use lib.ListN.{length, take}
 use lib.Seq.{length-take-le}
 use Rattle.restores.proofs.Records.{grown, shrunk}
 use Rattle.restores.proofs.repack.Goals as goal
-
-pub slice_bounds-copy_in-end : goal.slice_bounds-copy_in-end
-slice_bounds-copy_in-end c = let part : length (take c.args.n c.args.bodies.now) ≡ c.args.n = length-take-le c.args.n c.args.bodies.now c.requires.0 in sym (part)
-
-pub copy_in-requires : goal.copy_in-requires
-copy_in-requires c = let part : length (take c.args.n c.args.bodies.now) ≡ c.args.n = length-take-le c.args.n c.args.bodies.now c.requires.0 in omega (arith, part, c.before.requires.1)
 
 pub returns-then-end-n : goal.returns-then-end-n
 returns-then-end-n c = let part : length (take c.args.n c.args.bodies.now) ≡ c.args.n = length-take-le c.args.n c.args.bodies.now c.requires.0 in grown _ _ _ _ _ (part) c.copy_in.ensures c.if-end-n.true

@@ -1,5 +1,4 @@
 use mathlib.Core.Path.{sym, ◌∙◌}
-use lib.Seq.{length-take-le}
 use borrow.Author.Tests.{not-true, not-false}
 use Rattle.restores.specs.Restored.{lent_handoff}
 use Rattle.restores.specs.Steps.{held_in}
@@ -11,9 +10,6 @@ returns-then-h-given c = other-id (held_in c.args.h) (lent_handoff c.args.given)
 
 pub returns-then-h-given-2 : goal.returns-then-h-given-2
 returns-then-h-given-2 c = other-number (held_in c.args.h) (lent_handoff c.args.given) c.if-h-given.false c.if-h-given-2.true
-
-pub slice_bounds-same_bytes-end : goal.slice_bounds-same_bytes-end
-slice_bounds-same_bytes-end c = sym (length-take-le c.args.h.len c.args.h.body c.requires)
 
 pub returns-then-not-same_bytes : goal.returns-then-not-same_bytes
 returns-then-not-same_bytes c = other-body (held_in c.args.h) (lent_handoff c.args.given) c.if-h-given.false c.if-h-given-2.false (sym c.same_bytes.ensures ∙ c.if-not-same_bytes.true)
