@@ -1,7 +1,7 @@
 use mathlib.Core.Path.{◌∙◌}
 use native.Mathlib.Omega.{arith}
 use Rattle.receiving.proofs.Now.{ready}
-use Rattle.link_arrivals.proofs.Steps.{few_now, abandoning, refused, may_put, may_request, carrying, taken}
+use Rattle.link_arrivals.proofs.Steps.{few_now, abandoning, refused, may_put, carrying, taken}
 use Rattle.link_arrivals.proofs.take_now.Goals as goal
 
 pub deliver-requires : goal.deliver-requires

@@ -1,7 +1,7 @@
 use borrow.Author.Tests.{not-true, not-false}
-use Rattle.restores.proofs.Handoffs.{none-there, none-given, both}
+use Rattle.restores.proofs.Handoffs.{none-given, both}
 use Rattle.parts.specs.Parts.{handoff_in}
-use Rattle.link_restores.proofs.Handoffs.{flag-there, flag_gone, within_four}
+use Rattle.link_restores.proofs.Handoffs.{flag-there}
 use Rattle.link_restores.proofs.agrees.Goals as goal
 
 pub returns-then-not-given : goal.returns-then-not-given

@@ -1,5 +1,4 @@
 use mathlib.Core.Path.{sym, ◌∙◌}
-use Rattle.starts.proofs.Messages.{long_record}
 use Rattle.restores.proofs.Restores.{size-long, size_small}
 use Rattle.parts.specs.Parts.{parts, opened_of}
 use Rattle.link_restores.proofs.Restores.{short-outbound, short-messages, bad_code, unsound, bad_record, long-handoff, late}

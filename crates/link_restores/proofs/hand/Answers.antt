@@ -1,6 +1,6 @@
 use native.Mathlib.Omega.{arith}
 use borrow.Author.Tests.{not-true, not-false}
-use Rattle.link_restores.proofs.Handoffs.{hands_none, hands_at, short-body}
+use Rattle.link_restores.proofs.Handoffs.{hands_none, hands_at}
 use Rattle.link_restores.proofs.hand.Goals as goal
 
 pub returns-then-not-given : goal.returns-then-not-given

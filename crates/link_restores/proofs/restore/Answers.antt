@@ -1,5 +1,5 @@
 use Rattle.parts.specs.Parts.{parts}
-use Rattle.link_restores.proofs.Restores.{passed, away, turned}
+use Rattle.link_restores.proofs.Restores.{away, turned}
 use Rattle.link_restores.proofs.restore.Goals as goal
 
 pub returns-in-Err : goal.returns-in-Err
