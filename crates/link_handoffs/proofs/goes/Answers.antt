@@ -1,6 +1,6 @@
 use Rattle.link_handoffs.proofs.Commands.{exact_in, holding_in, by_command}
-use Rattle.link_restores.proofs.Handoffs.{flag-there, flag_gone}
-use Rattle.handoffs.proofs.Commands.{a-command, is_none}
+use Rattle.link_restores.proofs.Handoffs.{flag-there}
+use Rattle.handoffs.proofs.Commands.{is_none}
 use Rattle.link_handoffs.proofs.goes.Goals as goal
 
 pub returns-then-not-present : goal.returns-then-not-present
@@ -8,4 +8,3 @@ returns-then-not-present c = by_command c.args.restoring (is_none c.args.present
 
 pub pending-requires : goal.pending-requires
 pending-requires c = (c.requires.0.list, holding_in c.args.words.now c.args.halves.now c.args.bytes.now c.args.clock.now c.args.outbound.now c.requires.0 (flag-there _ c.if-bytes-eq0.false))
-
