@@ -13,7 +13,7 @@ use Rattle.rules.specs.declared.Refusal.{Refusal}
 use Rattle.rules.specs.declared.Refusal.TheVariants.{QueueCount, QueueBytes}
 use Rattle.rules.specs.Lists.{Bytes, any, put, itself}
 use Rattle.rules.specs.State.{Frame, frame_number, is_frame}
-use Rattle.std.specs.Prelude.{None, Some, Ok, Err}
+use Rattle.std.specs.Prelude.{None, Ok, Err}
 use Rattle.parts.specs.Codes.{good_codes}
 use Rattle.events.specs.Written.{Listed, asked, books}
 use Rattle.numbers.specs.declared.Numbers.{Numbers}
@@ -29,7 +29,7 @@ use Rattle.draining.specs.declared.Ended.{Ended}
 use Rattle.draining.specs.Turns.{turn_of, with_queue}
 use Rattle.draining.specs.Ends.{Fails, Abandoning, Abandons, Carrying, Carries}
 use Rattle.receiving.specs.Checks.{Acknowledges, Acknowledging, Anew, Delivers}
-use Rattle.receiving.proofs.Next.{new-above, taking}
+use Rattle.receiving.proofs.Next.{taking}
 use Rattle.receiving.proofs.Again.{answers-again, waits-again}
 use Rattle.receiving.proofs.Now.{good, now_abandoning, now_refused, put-fits, now_carrying, now_taken}
 use Rattle.receiving.proofs.Later.{body-fits, kept_carrying, kept-queued, queue-many, queue_long, enters, joins_carrying, joins_queue}
@@ -263,8 +263,5 @@ module _ {f : Frame} (w h b : List ℕ) (t : Float) {l : List ℕ} {d o q : Byte
   codes = (usable w h b t pre.checked).codes
 
   module _ {u : Turn} (e : u ≡ turn_of (opened_of (parts w h b t))) where
-    pub above : u.remote < f.number
-    above = new-above pre.receiving e
-
     pub choosing : (now : Bool) (status : HostStatus) {r : Bool} → Delivers status f.number f.kind u r → r ≡ now → Taking now status u f w h b t l d o q
     choosing now status g z = record { checked = pre.checked; taking = taking now status pre.receiving e g z }

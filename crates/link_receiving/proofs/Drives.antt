@@ -1,5 +1,5 @@
 -- Data in any mode, driven. Assumes nothing.
-use mathlib.Core.Path.{◌≡◌, refl, sym, ap, ◌∙◌}
+use mathlib.Core.Path.{◌≡◌, refl, sym}
 use mathlib.Core.Bool.{true, false}
 use mathlib.Core.List.{List}
 use Prim.Native.Nat.{ℕ, ◌≤◌}
@@ -14,7 +14,7 @@ use Rattle.rules.specs.Lists.{Bytes}
 use Rattle.rules.specs.State.{Frame}
 use Rattle.rules.specs.Calls.{gets_data}
 use Rattle.rules.specs.Buffers.{wrong_code}
-use Rattle.std.specs.Prelude.{Option, None, Some, Result, Ok, Err}
+use Rattle.std.specs.Prelude.{Result, Ok, Err}
 use Rattle.peer_session.specs.Sound as Sounds
 use Rattle.session.specs.Promise.{lent, Called}
 use Rattle.draining.specs.Arrived.{told}
@@ -25,7 +25,7 @@ use Rattle.receiving.specs.Checks.{Acknowledges, Acknowledging, Anew}
 use Rattle.receiving.proofs.Checks.{spent, spent_reach}
 use Rattle.receiving.proofs.Data.{data_takes, check_fits, fail_fits, refused_by, failed_by, again-fits, again_by, new-fits, new_by}
 use Rattle.parts.specs.declared.LinkAnswer.{LinkAnswer}
-use Rattle.parts.specs.Codes.{handed, answer_of}
+use Rattle.parts.specs.Codes.{answer_of}
 use Rattle.parts.specs.Parts.{Parts, parts, opened_of}
 use Rattle.parts.specs.Driven.{Driven}
 use Rattle.parts.proofs.Drives.{refuses, changes}
@@ -106,5 +106,3 @@ module _ (status : HostStatus) (f : Frame) (w h b : List ℕ) (t : Float) (l : L
 
   pub arriving : z ≡ Ok tt → Arriving f w h b t l d o q
   arriving ez = record { arrived = arrives l d o q e t ez; kind = ltb-false 2 f.kind (found_by l d o q e t (Ok tt) ez).known }
-
--- ---- the answer

@@ -1,5 +1,5 @@
 use native.Mathlib.Omega.{arith}
-use Rattle.link_arrivals.proofs.Steps.{few-later, topped-later, listed-later, sums, body-short, may_fail, carrying_kept, queued_already, too_many, too_long, may_insert, carrying_joined, joined}
+use Rattle.link_arrivals.proofs.Steps.{few-later, topped-later, sums, body-short, may_fail, carrying_kept, queued_already, too_many, too_long, may_insert, carrying_joined, joined}
 use Rattle.link_arrivals.proofs.enqueue.Goals as goal
 
 pub holds-requires : goal.holds-requires

@@ -1,7 +1,3 @@
-use native.Mathlib.Omega.{arith}
-use mathlib.Core.Path.{ap, ◌∙◌}
-use lib.ListN.{length}
-use Rattle.delivery.proofs.Queues.{part-size}
 use Rattle.link_delivery.proofs.Raw.{handed-asked, handed_plain}
 use Rattle.link_delivery.proofs.hand_over.Goals as goal
 

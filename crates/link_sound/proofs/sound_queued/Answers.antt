@@ -1,7 +1,7 @@
 use Prim.Native.Nat.{◌-◌, ◌+◌, ◌≤◌}
 use native.Mathlib.Omega.{arith}
 use mathlib.Core.Bool.{true}
-use mathlib.Core.Path.{◌≡◌, refl, sym, ◌∙◌}
+use mathlib.Core.Path.{◌≡◌, sym, ◌∙◌}
 use Rattle.stores.proofs.Scans.{admitted-none}
 use Rattle.queue.specs.View.{num_q, len_q}
 use Rattle.queue.specs.Sound.{admits_queued}
