@@ -32,7 +32,7 @@ use Rattle.peer_session.proofs.View.{exact-held}
 use Rattle.session.specs.declared.Returned.{Returned}
 use Rattle.session.specs.Promise.{exit, lent, Called, Turned}
 use Rattle.session.proofs.Promises.{list_written, outbound-same, queue-same}
-use Rattle.session.proofs.Lengths.{short-list, short-outbound, short-queue, long-enough, not_taken}
+use Rattle.session.proofs.Lengths.{short-queue, long-enough, not_taken}
 use Rattle.session.proofs.Entry.{Entered, entered, is-short, is_unsound, meets, is_refused}
 use Rattle.acks.specs.Steps.{acked, shown, Acked, OutOfRange}
 

@@ -55,13 +55,7 @@ pub fn acknowledged_clock(c: Clock, before: usize, after: usize) -> Clock
 pub fn handoff_acknowledged(before: bool, sent: bool, handoff: u64, number: u64) -> bool
     ensures { result ≡ (before || (sent && leb handoff number)) }
 {
-    if before {
-        return true;
-    }
-    if !sent {
-        return false;
-    }
-    handoff <= number
+    before || sent && handoff <= number
 }
 
 // The messages up to the ack go. The flag of a handoff that is not present counts for nothing.
@@ -137,7 +131,7 @@ fn out_of_range(s: SessionState, list: &mut [u64], queue: &mut [u8]) -> Returned
         list,
         0,
         EventCode::Failure as u64,
-        Refusal::AckOutOfRange as u64,
+        u64::from(Refusal::AckOutOfRange),
         0,
         0,
     );
@@ -197,10 +191,7 @@ pub fn receive_keepalive(s: SessionState, list: &mut [u64]) -> Told
 pub fn own_frame(present: bool, handoff: u64, number: u64) -> bool
     ensures { result ≡ (present && eqb handoff number) }
 {
-    if !present {
-        return false;
-    }
-    handoff == number
+    present && handoff == number
 }
 
 // Data was accepted. The handoff's own frame requests a commit, whatever the generation.
@@ -249,10 +240,7 @@ pub fn retries_full(v: Numbers, number: u64) -> bool
     requires { v.count ≤ 512 }
     ensures { result ≡ full_of number v }
 {
-    if v.count < SessionState::MAX_RETRIES {
-        return false;
-    }
-    !numbers::has(v, number)
+    v.count >= SessionState::MAX_RETRIES && !numbers::has(v, number)
 }
 
 // An ack was not accepted: it is sent again with the next keepalive.

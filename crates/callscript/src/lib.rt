@@ -51,7 +51,7 @@ impl Script<'_> {
     fn fetch(&self, number: u64, s: SessionState, out: &mut Output) {
         let outbound = &*self.stores.outbound;
         let a = fetches::find(s, outbound, number);
-        let body = fetches::fetch(s, outbound, number).unwrap_or(b"");
+        let body = fetches::held(s, outbound, number).unwrap_or(b"");
         call_printing::print_fetch(out, a, body);
     }
 

@@ -1,5 +1,5 @@
 -- A fetch, test by test. Assumes nothing.
-use Rattle.std.specs.Prelude.{Option, unwrap_or}
+use Rattle.std.specs.Prelude.{Option}
 use mathlib.Core.Path.{◌≡◌, refl, sym, ap, ◌∙◌}
 use mathlib.Core.Bool.{true, false}
 use mathlib.Core.List.{List, []}
@@ -7,7 +7,7 @@ use Prim.Native.Nat.{ℕ, ◌≤◌, ◌<◌}
 use native.Mathlib.Omega.{arith}
 use lib.ListN.{length}
 use Rattle.rules.specs.declared.Answer.{Answer}
-use Rattle.rules.specs.declared.Answer.TheVariants.{Done, Number, Flag, Prepared, Held, NotHeld, Refused}
+use Rattle.rules.specs.declared.Answer.TheVariants.{Refused}
 use Rattle.rules.specs.declared.Refusal.TheVariants.{ShortBuffer, BadRecord}
 use Rattle.rules.specs.Lists.{Bytes}
 use Rattle.rules.specs.Progress.{outcome}
@@ -21,21 +21,11 @@ use Rattle.outbox.proofs.Places.{place-unacked}
 use Rattle.peer_session.specs.declared.SessionState.{SessionState}
 use Rattle.peer_session.specs.View.{state_of}
 use Rattle.peer_session.specs.Sound.{sound_of, Full}
-use Rattle.session.specs.Promise.{promise, lent}
+use Rattle.session.specs.Promise.{lent}
 use Rattle.session.proofs.Promises.{promise-short, promise_unsound, outbound-same}
 use Rattle.session.proofs.Lengths.{short-outbound, long-enough, not_taken}
 use Rattle.session.proofs.Entry.{Entered, entered, meets}
-use Rattle.fetches.specs.Fetched.{AnsweredWithOutbound, part_of, part_if, FetchedIf, Fetched}
-
--- the bytes that an answer names
-named : (a : Answer) (o : Bytes) → unwrap_or (part_if a o) [] ≡ part_of a o
-named Done o = refl
-named (Number n) o = refl
-named (Flag b) o = refl
-named (Prepared c) o = refl
-named (Held start len) o = refl
-named NotHeld o = refl
-named (Refused x) o = refl
+use Rattle.fetches.specs.Fetched.{AnsweredWithOutbound}
 
 module _ (n : ℕ) (s : SessionState) (o : Bytes) where
   known : wrong_code (fetches n) ≡ false
@@ -71,7 +61,3 @@ module _ (n : ℕ) (s : SessionState) (o : Bytes) where
             outbound = sym (outbound-same i.stored);
             queue = refl;
           })
-
-  -- its bytes, an empty part where none is held
-  pub fetched_bytes : {r : Option Bytes} → FetchedIf n s o r → Fetched n s o (unwrap_or r [])
-  fetched_bytes h l d q lq = ap (λ (x : Option Bytes). unwrap_or x []) (h l d q lq) ∙ named (promise (fetches n) s (lent l d o q)).answer o

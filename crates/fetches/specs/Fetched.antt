@@ -44,10 +44,10 @@ lies_within n (Held start len) = (start ≤ n) × (len ≤ n - start)
 lies_within n NotHeld = Unit
 lies_within n (Refused x) = Unit
 
--- of a fetch: the body, if it is held
+-- of `held`: the body, if it is held
 abbrev pub FetchedIf : ℕ → SessionState → Bytes → Option Bytes → Type 0
 FetchedIf n s o r = (l : List ℕ) (d q : Bytes) → queue_bytes ≤ length q → r ≡ part_if (promise (fetches n) s (lent l d o q)).answer o
 
--- the same of its bytes alone, empty where it is not held; `fetched_bytes` of proofs/Finds draws it from `FetchedIf`
+-- of `fetch`: its bytes alone, empty where it is not held
 abbrev pub Fetched : ℕ → SessionState → Bytes → Bytes → Type 0
 Fetched n s o r = (l : List ℕ) (d q : Bytes) → queue_bytes ≤ length q → r ≡ part_of (promise (fetches n) s (lent l d o q)).answer o

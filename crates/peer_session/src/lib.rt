@@ -148,7 +148,7 @@ impl SessionState {
             bytes: [0; 64],
             len: 0,
         };
-        SessionState::new(outbox, 0, 0, policy, reject)
+        SessionState::new(outbox, 0, Disposition::Other as u8, policy, reject)
     }
 }
 

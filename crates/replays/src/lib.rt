@@ -17,22 +17,17 @@ use session::{ANY, Returned};
 pub fn resends(event: Connectivity) -> bool
     ensures { result ≡ leb 4 (connectivity_number event) }
 {
-    match event {
-        Connectivity::Disconnected | Connectivity::Reconnected | Connectivity::PeerUnavailable => {
-            false
-        }
-        Connectivity::Registered | Connectivity::PeerAvailable => true,
-    }
+    matches!(
+        event,
+        Connectivity::Registered | Connectivity::PeerAvailable
+    )
 }
 
 // Whether the clock holds a replay back that is not forced.
 pub fn too_soon(time: f64, last: f64, force: bool) -> bool
     ensures { result ≡ (not force && held_back time last) }
 {
-    if force {
-        return false;
-    }
-    clock::held_back(time, last)
+    !force && clock::held_back(time, last)
 }
 
 // What is unacked and not pending is sent anew, unless that was done a moment ago and is not forced.

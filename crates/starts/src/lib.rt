@@ -172,10 +172,7 @@ fn good_policy(policy: Policy) -> bool
 fn good_reject(reject: &[u8]) -> bool
     ensures { result ≡ good_reject reject.now }
 {
-    if reject.len() < 1 {
-        return false;
-    }
-    reject.len() <= SessionState::MAX_REJECT
+    reject.len() >= 1 && reject.len() <= SessionState::MAX_REJECT
 }
 
 fn reject_body(reject: &[u8]) -> RejectBody
@@ -252,6 +249,7 @@ pub fn start(
 ) -> Returned
     ensures { Started «record».entry.reliable «record».entry.numbers.now «record».entry.lengths.now «record».entry.bodies.now policy reject.now outbound.old queue.old result outbound.new queue.new }
 {
+    // Not by `session::enters`: there is no session yet.
     if outbound.len() < SessionState::OUTBOUND_BYTES {
         return refused(Refusal::ShortBuffer);
     }

@@ -3,4 +3,4 @@ use Rattle.acks.proofs.Steps.{failure-listed}
 use Rattle.acks.proofs.out_of_range.Goals as goal
 
 pub returns : goal.returns
-returns c = record { leaves = c.broken-r.ensures; answer = refl; listed = failure-listed c.emit.ensures }
+returns c = record { leaves = c.broken-r.ensures; answer = refl; listed = failure-listed (rw c.from.ensures at c.emit.ensures) }
