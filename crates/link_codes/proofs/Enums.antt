@@ -3,11 +3,17 @@ use mathlib.Core.Path.{◌≡◌, ap, ◌∙◌}
 use mathlib.Core.Bool.{true, false}
 use Prim.Native.Nat.{ℕ, ◌≤◌}
 use lib.Dec.{eqb}
+use native.Mathlib.Omega.{arith}
 use borrow.Author.Tests.{eq-eqb, ne_eqb, le-leb}
+use Rattle.std.specs.Prelude.{Result, Ok, Err}
+use Rattle.std.specs.Result.{result_unwrap_or}
+use Rattle.rules.specs.declared.Refusal.{Refusal}
 use Rattle.rules.specs.declared.Terms.{Terms}
 use Rattle.rules.specs.declared.Setup.{Setup}
 use Rattle.rules.specs.declared.Setup.TheVariants as Setups
 use Rattle.rules.specs.declared.ReceiveMode.{ReceiveMode}
+use Rattle.rules.specs.declared.ReceiveMode.TheVariants.{Retiring}
+use Rattle.rules.specs.Codes.{ReadsMode}
 use Rattle.rules.specs.Receiving.{mode_of}
 use Rattle.peer_session.specs.declared.Stage.{Stage}
 use Rattle.parts.specs.declared.StageCodes.{StageCodes}
@@ -39,6 +45,13 @@ module _ (n : ℕ) (t : Terms) where
 
       pub setup-none : (n ≡ 3 → ⊥) → Setups.None ≡ setup_of n t
       setup-none d = rw (ne_eqb n 1 a, ne_eqb n 2 b, ne_eqb n 3 d)
+
+-- ---- modes
+
+-- a code above those of the list is the last
+pub mode_read : (n : ℕ) (r : Result ReceiveMode Refusal) → ReadsMode n r → result_unwrap_or r Retiring ≡ mode_of n
+mode_read n (Ok m) h = h.1
+mode_read n (Err x) h = rw (ne_eqb n 0 (λ e. omega (arith, e, h.1)), ne_eqb n 1 (λ e. omega (arith, e, h.1)), ne_eqb n 2 (λ e. omega (arith, e, h.1)), ne_eqb n 3 (λ e. omega (arith, e, h.1)))
 
 -- ---- stages
 

@@ -4,7 +4,6 @@
 ghost use Rattle.std.specs.Prelude.{◌≡◌, true, ◌&&◌, ◌||◌, leb, ltb, List, ℕ, ◌+◌, ◌*◌, ◌≤◌, ◌<◌, length, take, if◌then◌else◌};
 ghost use Rattle.std.proofs.Math.Seq.{slice};
 ghost use Rattle.rules.specs.Lists.{total};
-ghost use Rattle.outbox.specs.Sweeps.{Lowers};
 ghost use Rattle.outbox.specs.View.{len_u};
 ghost use Rattle.outbox.specs.Sound.{sound_outbox_of};
 ghost use Rattle.parts.specs.Seats.{seats};
@@ -294,21 +293,6 @@ fn keeps(number: u32, pending: u8, unsent: u8, ack: u64) -> bool
     ack < u64::from(number) || pending != 0 || unsent != 0
 }
 
-// Where the body of the next record goes, by whether this one stays: if so, its body has moved down. One that is in its place is not touched.
-fn lower_if(stays: bool, store: &mut [u8], to: usize, from: usize, n: usize) -> usize
-    requires { (to ≤ from) × (from + n ≤ length store.old) }
-    ensures { Lowers stays to from n store.old store.new result }
-{
-    if !stays {
-        return to;
-    }
-    if to == from {
-        return to + n;
-    }
-    stores::move_run(store, to, from, n);
-    to + n
-}
-
 // Records go and stay in any order: one pass, and the freed tail is cleared once.
 fn sweep(words: &mut Words, halves: &mut Halves, bytes: &mut Bytes, store: &mut [u8], ack: u64)
     requires { ExactOutbox (outbox_in words.old halves.old bytes.old) (length store.old) }
@@ -325,7 +309,7 @@ fn sweep(words: &mut Words, halves: &mut Halves, bytes: &mut Bytes, store: &mut 
         let unsent = bytes[parts::UNSENT + i];
         let n = len as usize;
         let stays = keeps(number, pending, unsent, ack);
-        let end = lower_if(stays, store, to, from, n);
+        let end = outbox::lower_if(stays, store, to, from, n);
         halves[k] = number;
         halves[parts::UNACKED_LENS + k] = len;
         bytes[k] = pending;

@@ -1,7 +1,7 @@
 // The call that ends a session, on its parts, in place: the driver's call on the session that they are.
 #![tactic(auto)]
 
-ghost use Rattle.std.specs.Prelude.{◌≡◌, ◌&&◌, eqb, length};
+ghost use Rattle.std.specs.Prelude.{length};
 ghost use Rattle.rules.specs.Calls.{retires};
 ghost use Rattle.outbox.specs.View.{ExactOutbox};
 ghost use Rattle.session.specs.Promise.{CalledWithStoresAlone};
@@ -11,7 +11,7 @@ ghost use Rattle.link_retires.specs.Steps.{Retiring, RetiresIn, ForgetsIn};
 
 use parts::{Bytes, Halves, LinkAnswer, SetupCode, Words};
 use peer_session::SessionState;
-use rules::{Disposition, Refusal, Terms};
+use rules::{Refusal, Terms};
 
 // No handoff, and an empty queue.
 fn retired(words: &mut Words, halves: &mut Halves, bytes: &mut Bytes, queue: &mut [u8])
@@ -45,16 +45,6 @@ fn forget(words: &mut Words, halves: &mut Halves, bytes: &Bytes, outbound: &mut 
     halves[parts::PERSISTED_GENERATION] = generation;
 }
 
-// Whether a rejection is retained.
-fn retains(retain: bool, disposition: u8) -> bool
-    ensures { result ≡ (retain && eqb disposition 4) }
-{
-    if !retain {
-        return false;
-    }
-    disposition == Disposition::OutboundReject as u8
-}
-
 // The session ends. The answer is whether its rejection is retained.
 pub fn retire(
     words: &mut Words,
@@ -76,7 +66,7 @@ pub fn retire(
     if !link_sound::sound(words, halves, bytes) {
         return link_codes::refusal(Refusal::BadRecord);
     }
-    let kept = retains(retain, bytes[parts::DISPOSITION]);
+    let kept = setup::retains(retain, bytes[parts::DISPOSITION]);
     retired(words, halves, bytes, queue);
     if kept {
         return link_codes::flag(true, 0);

@@ -10,9 +10,9 @@ ghost use Rattle.parts.specs.Driven.{DrivenStart};
 ghost use Rattle.link_starts.specs.Steps.{Written, TakingIn, TakenIn};
 ghost use Rattle.link_starts.specs.Starts.{head, Judged, FoundStart, BodyIn};
 
-use parts::{Bytes, Halves, LinkAnswer, Words};
+use parts::{Bytes, Halves, LinkAnswer, SetupCode, Words};
 use peer_session::SessionState;
-use rules::{Policy, Refusal};
+use rules::{Policy, ReceiveMode, Refusal};
 use starts::{Record, Reliable};
 
 // ---- the messages of a record
@@ -110,9 +110,9 @@ fn put_middle(bytes: &mut Bytes, disposition: u8, reject: &[u8])
 {
     stores::copy_in(bytes, parts::REJECT_BODY, reject);
     bytes[parts::DISPOSITION] = disposition;
-    bytes[parts::SETUP] = 0;
+    bytes[parts::SETUP] = SetupCode::None as u8;
     bytes[parts::INITIATOR] = 0;
-    bytes[parts::MODE] = 0;
+    bytes[parts::MODE] = ReceiveMode::Raw as u8;
     bytes[parts::FAILED] = 0;
     bytes[parts::HANDOFF_SENT] = 0;
     bytes[parts::HANDOFF_ACKNOWLEDGED] = 0;

@@ -152,7 +152,7 @@ fn lower(store: &mut [u8], to: usize, from: usize, n: usize)
 }
 
 // Where the body of the next record goes, by whether this one stays: if so, its body has moved down.
-fn lower_if(stays: bool, store: &mut [u8], to: usize, from: usize, n: usize) -> usize
+pub fn lower_if(stays: bool, store: &mut [u8], to: usize, from: usize, n: usize) -> usize
     requires { (to ≤ from) × (from + n ≤ length store.old) }
     ensures { Lowers stays to from n store.old store.new result }
 {

@@ -196,7 +196,7 @@ fn forget(s: SessionState, outbound: &mut [u8]) -> SessionState
 }
 
 // Whether a rejection is retained.
-fn retains(retain: bool, disposition: u8) -> bool
+pub fn retains(retain: bool, disposition: u8) -> bool
     ensures { result ≡ (retain && eqb disposition 4) }
 {
     retain && disposition == Disposition::OutboundReject as u8
