@@ -20,7 +20,6 @@ use Rattle.stores.proofs.Laws.{length-placed}
 use Rattle.peer_session.specs.declared.TerminalHandoff.{TerminalHandoff}
 use Rattle.peer_session.specs.declared.SessionState.{SessionState}
 use Rattle.peer_session.specs.View.{handoff_of, handoff_length, state_of}
-use Rattle.peer_session.specs.New.{NoHandoff}
 use Rattle.session.specs.declared.Returned.{Returned}
 use Rattle.session.specs.Promise.{Turned}
 use Rattle.setup.proofs.Steps.{turned_is}

@@ -58,17 +58,6 @@ late_is s o q e =
     ap (λ (t : Bool). not (eqb s.clock.generation 0 && t && empty (in_use s.waiting))) (empty-count (frames_of s.queue q) s.queue.count (frames-length s.queue q e.queued))
     ∙ ap (λ (t : Bool). not (eqb s.clock.generation 0 && eqb s.queue.count 0 && t)) (empty-count (in_use s.waiting) s.waiting.count w)
 
-module _ (generation queued waiting : ℕ) where
-  pub late_generation : (generation ≡ 0 → ⊥) → true ≡ not (eqb generation 0 && eqb queued 0 && eqb waiting 0)
-  late_generation e = rw (ne_eqb generation 0 e)
-
-  module _ (g : generation ≡ 0) where
-    pub late_queue : (queued ≡ 0 → ⊥) → true ≡ not (eqb generation 0 && eqb queued 0 && eqb waiting 0)
-    late_queue e = rw (eq-eqb generation 0 g, ne_eqb queued 0 e)
-
-    pub late_waiting : queued ≡ 0 → not (eqb waiting 0) ≡ not (eqb generation 0 && eqb queued 0 && eqb waiting 0)
-    late_waiting e = rw (eq-eqb generation 0 g, eq-eqb queued 0 e)
-
 -- ---- the rule
 
 abbrev restoring : Reliable → Option R.Handoff → R.State → Outcome
