@@ -35,7 +35,7 @@ fn print_flag(out: &mut Output, flag: bool) {
 
 fn print_stage(out: &mut Output, g: Stage) {
     let t = terms_of(g.setup);
-    print_field(out, g.disposition as u64);
+    print_field(out, u64::from(g.disposition));
     print_field(out, setup_number(g.setup));
     print_field(out, u64::from(t.number));
     print_flag(out, t.initiator);

@@ -2,7 +2,7 @@
 #![tactic(auto)]
 
 use lines::Output;
-use rules::Answer;
+use rules::{Answer, EventCode};
 
 pub mod dumping; // the state of a session
 
@@ -47,8 +47,12 @@ pub fn print_fetch(out: &mut Output, a: Answer, body: &[u8]) {
 // The body that an event points to, by its code, in one of the two stores.
 fn print_pointed(out: &mut Output, event: &[u64], delivery: &[u8], outbound: &[u8]) {
     match *event {
-        [2, _, start, len] => print_body(out, part(delivery, start, len)),
-        [8, _, start, len] => print_body(out, part(outbound, start, len)),
+        [code, _, start, len] if code == EventCode::Message as u64 => {
+            print_body(out, part(delivery, start, len))
+        }
+        [code, _, start, len] if code == EventCode::SendData as u64 => {
+            print_body(out, part(outbound, start, len))
+        }
         _ => {}
     }
 }

@@ -1,9 +1,8 @@
 -- `channel_command`, test by test. Assumes nothing.
-use Rattle.std.specs.Prelude.{if◌then◌else◌}
-use mathlib.Core.Path.{◌≡◌, refl, ap, ◌∙◌}
+use mathlib.Core.Path.{◌≡◌, refl}
 use mathlib.Core.Bool.{Bool, true, false}
 use mathlib.Core.List.{List, []}
-use mathlib.Core.Option.{Option, none, some}
+use mathlib.Core.Option.{Option}
 use Prim.Native.Nat.{ℕ, ◌≤◌, ◌<◌}
 use native.Mathlib.Omega.{arith}
 use lib.ListN.{length, replicate, length-replicate}
@@ -27,7 +26,7 @@ use Rattle.session.proofs.Entry.{Entered, entered}
 use Rattle.setup.specs.Steps.{Ready, Comes}
 use Rattle.setup.proofs.Lending.{Plain, is-taken, comes}
 use Rattle.setup.proofs.Steps.{exact-staged}
-use Rattle.handoffs.specs.Commands.{command_of, starting_in, commanding, Vacant, Holding}
+use Rattle.handoffs.specs.Commands.{starting_in, commanding, Vacant, Holding}
 
 pub plain : {b : Bool} {c : Option Command} → Plain (commands b c) true true false
 unfolding taken_by wrong_code queue_reach

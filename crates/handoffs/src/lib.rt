@@ -64,7 +64,7 @@ fn handed(id: u64, number: u64, body: &[u8]) -> TerminalHandoff
     }
 }
 
-// The size that counts: no command has none.
+// The size that counts: no command has none. Beside `restores::size_of`, which is of a Given: a size shared would want a trait over the two.
 pub fn size_of(command: Option<Command>) -> usize
     ensures { result ≡ command_size (command_in command.entry) }
 {
@@ -79,12 +79,7 @@ fn unacked_to(o: Outbox, number: u64) -> bool
     requires { (sound_outbox_of o ≡ true) × (length o.records ≡ 256) }
     ensures { (s : Bytes) → result ≡ any (numbered_to number) (unacked_of o s) }
 {
-    if o.count == 0 {
-        return false;
-    }
-    let u = o.records[0];
-    let n = u.number as u64;
-    n <= number
+    o.count != 0 && u64::from(o.records[0].number) <= number
 }
 
 // Whether an unacked message has a number and a body.

@@ -1,7 +1,7 @@
 // The session of a script, and its calls.
 use crate::reading::Call;
 use peer_session::SessionState;
-use rules::{Answer, PreparedCommit, Refusal};
+use rules::{Answer, Disposition, FrameKind, PreparedCommit, Refusal};
 use session::Returned;
 use starts::{Record, Reliable};
 
@@ -21,7 +21,7 @@ fn start(message_number: u64, outbound: &mut [u8; 65536], queue: &mut [u8; 32768
     let fresh = Reliable {
         message_number,
         remote_number: 0,
-        disposition: 0,
+        disposition: Disposition::Other as u64,
     };
     let Some(policy) = starts::link_class(2) else {
         return session::refused(SessionState::none(), Refusal::UnknownCode);
@@ -76,7 +76,7 @@ impl Script {
             Call::Prepare => prepare(s),
             Call::Complete(persisted) => commits::complete_commit(s, list, self.commit, persisted),
             Call::Ack(n) => acks::receive_ack(s, list, &mut self.outbound, &mut self.queue, n),
-            Call::Report(n, accepted) => acks::report(s, list, 0, n, accepted),
+            Call::Report(n, accepted) => acks::report(s, list, FrameKind::Data as u64, n, accepted),
         };
         self.session = r.session;
         if let Answer::Prepared(commit) = r.answer {

@@ -257,7 +257,7 @@ pub fn receive_data(
         delivery.len(),
         outbound.len(),
         queue.len(),
-        2 < kind,
+        kind > BodyKind::Reject as u64,
         true,
     ) {
         return session::refused(s, x);

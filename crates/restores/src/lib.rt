@@ -121,7 +121,7 @@ fn agrees(h: TerminalHandoff, given: Option<Given>) -> bool
     }
 }
 
-// The size that counts: no handoff has none.
+// The size that counts: no handoff has none. Beside `handoffs::size_of`, which is of a Command: a size shared would want a trait over the two.
 pub fn size_of(given: Option<Given>) -> usize
     ensures { result ≡ handoff_size (given_if given.entry) }
 {
@@ -177,13 +177,7 @@ fn restore_terminal(s: SessionState, given: Option<Given>) -> Returned
 pub fn too_late(generation: u32, queued: usize, waiting: usize) -> bool
     ensures { result ≡ not (eqb generation 0 && eqb queued 0 && eqb waiting 0) }
 {
-    if generation != 0 {
-        return true;
-    }
-    if queued != 0 {
-        return true;
-    }
-    waiting != 0
+    !(generation == 0 && queued == 0 && waiting == 0)
 }
 
 // A session takes a record and a terminal handoff, whose body is lent. Refused by 31 it has taken the record.
