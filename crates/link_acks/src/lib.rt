@@ -36,13 +36,7 @@ fn ack_enters(
 fn out_of_range(next: u64, number: u64) -> bool
     ensures { result ≡ outside number next }
 {
-    if number < 1 {
-        return true;
-    }
-    if next <= number {
-        return true;
-    }
-    false
+    number < 1 || next <= number
 }
 
 // The generation is raised where a message went.
@@ -70,10 +64,7 @@ fn handoff_flag(before: u8, sent: u8, handoff: u64, number: u64) -> u8
 fn complete(disposition: u8, left: u64) -> bool
     ensures { result ≡ (eqb disposition 4 && eqb left 0) }
 {
-    if disposition == Disposition::OutboundReject as u8 {
-        return left == 0;
-    }
-    false
+    disposition == Disposition::OutboundReject as u8 && left == 0
 }
 
 // The messages up to the ack go.

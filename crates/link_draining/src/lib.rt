@@ -54,7 +54,7 @@ fn send_reject(words: &mut Words, halves: &mut Halves, bytes: &mut Bytes, outbou
 }
 
 // All messages go.
-fn discard(words: &mut Words, halves: &Halves, bytes: &Bytes, outbound: &mut [u8])
+pub fn discard(words: &mut Words, halves: &Halves, bytes: &Bytes, outbound: &mut [u8])
     requires { ExactOutbox (outbox_in words.old halves.now bytes.now) (length outbound.old) }
     ensures { Discards words.old halves.now bytes.now outbound.old words.new outbound.new }
 {
@@ -184,7 +184,8 @@ pub fn abandon(
 
 // ---- the drain, and the end of a call
 
-// Drains the queue from index from on, after a step, and stores what came of it.
+// Drains the queue from index from on, after a step, and stores what came of it. Of its eleven parameters eight are what C lends: the four parts, the list
+// and the stores.
 pub fn carry(
     words: &mut Words,
     halves: &mut Halves,

@@ -4,7 +4,8 @@
 ghost use Rattle.std.specs.Prelude.{◌+◌, ◌≤◌, ◌<◌, length};
 ghost use Rattle.link_moves.specs.Moves.{Lowered, Raised};
 
-// Moves the n elements at index from down to index to.
+// Moves the n elements at index from down to index to. This and raise are not stores::move_run: their promise speaks by index, as the proofs of records
+// need it; through move_run it would be derived anew.
 pub fn lower<T: Copy>(part: &mut [T], to: usize, from: usize, n: usize)
     requires { (to ≤ from) × (from + n ≤ length part.old) }
     ensures { Lowered to from n part.old part.new }

@@ -202,7 +202,8 @@ pub fn mark_sent(words: &Words, halves: &Halves, bytes: &mut Bytes, number: u64)
 
 // ---- sends are listed
 
-// Lists a send, code 8, as event number n, where it is to go; the body starts at index from. Returns the next event's number.
+// Lists a send, code 8, as event number n, where it is to go; the body starts at index from. Returns the next event's number. Kept beside outbox's, which
+// takes a record: here only the numbers are there, and a record put together for the call would be no plainer.
 fn send_if(goes: bool, number: u32, len: u32, list: &mut [u64], n: usize, from: usize) -> usize
     requires { 4 * n + 4 ≤ length list.old }
     ensures { Sends goes number len from list.old n list.new result }

@@ -81,7 +81,8 @@ pub fn up_to(words: &Words, number: u64) -> usize
 
 // ---- put in
 
-// A frame goes in after those that are queued, whose bodies end at index end of the store.
+// A frame goes in after those that are queued, whose bodies end at index end of the store. It comes as number, kind and body, here and below: the struct
+// Frame lies above queue.
 pub fn join(
     words: &mut Words,
     halves: &mut Halves,

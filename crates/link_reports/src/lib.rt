@@ -68,10 +68,8 @@ fn retries_full(words: &Words, number: u64) -> bool
     ensures { result ≡ full_of number (retry_in words.now) }
 {
     let count = words[parts::RETRIES] as usize;
-    if count < SessionState::MAX_RETRIES {
-        return false;
-    }
-    !link_numbers::has(words, parts::RETRY_NUMBERS, count, number)
+    SessionState::MAX_RETRIES <= count
+        && !link_numbers::has(words, parts::RETRY_NUMBERS, count, number)
 }
 
 // An ack was accepted; one that was not is sent again with the next keepalive.

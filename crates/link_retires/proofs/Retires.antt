@@ -35,61 +35,29 @@ use Rattle.parts.specs.Codes.{answer_of, stage_of}
 use Rattle.parts.specs.Parts.{Parts, parts, at, section, unacked_at, queued_at, outbox_in, queue_in, waiting_in, retry_in, clock_in, codes_in, handoff_in, opened_of}
 use Rattle.parts.specs.Seats.{seats}
 use Rattle.parts.specs.Driven.{Driven}
-use Rattle.parts.proofs.Fields.{Agree, agree_set, agree_then, outbox-same, queue-same, numbers-same, section-same, policy-same, handoff-same, reject-same, codes_same}
+use Rattle.parts.proofs.Fields.{Agree, agree_within, agree_past, agree_set, agree_then, outbox-same, queue-same, numbers-same, section-same, policy-same, handoff-same, reject-same, codes_same}
 use Rattle.parts.proofs.Seats.{length-seats}
 use Rattle.parts.proofs.Opened.{opened_as}
 use Rattle.parts.proofs.After.{agree_all}
 use Rattle.parts.proofs.Drives.{changes, refuses}
-use Rattle.link_queue.specs.Steps.{bodies, Summing}
-use Rattle.link_queue.proofs.Sums.{end-bodies}
+use Rattle.link_queue.specs.Steps.{Requeued}
+use Rattle.link_draining.specs.Steps.{Discards}
 use Rattle.link_sound.proofs.Parts.{usable}
 use Rattle.link_setup.specs.Steps.{Stages}
 use Rattle.link_retires.specs.Steps.{Retiring, RetiresIn, ForgetsIn}
-use Rattle.link_setup.proofs.Stages.{stage_is, restaged, stages_apart, stage-retires, long-bytes}
-
--- ---- all frames go
-
-pub cleared : (x r : Queue) (q q' : Bytes) → ExactQueue x (length q) → (end : ℕ) → end ≡ end_q x → q' ≡ placed q 0 (replicate (end - 0) 0)
-    → length r.records ≡ 256 → r.count ≡ 0 → Repacked x q [] r q'
-unfolding frames_of cut total packed placed
-cleared x r q q' exact end ee e full none =
-    let z : length {A = ℕ} (replicate (end_q x) 0) ≡ end_q x = length-replicate (end_q x) 0 in
-    let b : q' ≡ replicate (end_q x) 0 ++ drop (end_q x) q =
-    e
-    ∙ ap (λ (k : ℕ). replicate k 0 ++ drop (0 + length {A = ℕ} (replicate k 0)) q) (sub-zero end ∙ ee)
-    ∙ ap (λ (k : ℕ). replicate (end_q x) 0 ++ drop k q) (zero-add (length {A = ℕ} (replicate (end_q x) 0)) ∙ z) in
-    let l : length q' ≡ length q = ap length e ∙ length-placed q 0 (replicate (end - 0) 0) (omega (arith, length-replicate {A = ℕ} (end - 0) 0, exact.small, exact.room)) in
-    record {
-      frames = rw none;
-      exact = record { full = full; few = omega arith; small = rw none (omega arith); room = omega (arith, exact.room) };
-      bytes =
-          b ∙ ap (λ (k : ℕ). replicate k 0 ++ drop (end_q x) q) (sym (sub-zero (end_q x))) ∙ sym (repacked_shrunk (end_q x) [] q (omega arith));
-      size = l;
-    }
+use Rattle.link_setup.proofs.Stages.{Restaged, stage_is, restaged, stages_apart, stage-retires, long-bytes}
 
 -- ---- no handoff, and an empty queue
 
 module _ (w h b : List ℕ) (q : Bytes) (ready : Retiring w h b (length q)) where
   -- the queue does not depend on the time of the last replay
-  exact-queue : ExactQueue (queue_in w h b) (length q)
+  pub exact-queue : ExactQueue (queue_in w h b) (length q)
   exact-queue = (usable w h b nan (ready.checked nan)).queued q ready.room
 
-  pub summing : Summing h (at w 4)
-  summing =
-      let x : ExactQueue (queue_in w h b) (length q) = exact-queue in
-      record { few = x.few; small = omega (arith, x.small, end-bodies w h b x.few) }
-
-  pub clears : {end : ℕ} → end ≡ bodies h (at w 4) → (0 ≤ end) × (end ≤ length q)
-  clears {end} e =
-      let x : ExactQueue (queue_in w h b) (length q) = exact-queue in
-      (omega arith, omega (arith, x.small, x.room, end-bodies w h b x.few))
-
-  module _ (lh : length h ≡ 772) {h' b₁ : List ℕ} (s : Stages (at b 768) 3 (record { number = 0; initiator = false }) h b h' b₁) (t : Float) where
+  module _ (lh : length h ≡ 772) {w' : List ℕ} {q' : Bytes} (r : Requeued [] w h b q w' h b q') {h' b₁ : List ℕ} (s : Stages (at b 768) 3 (record { number = 0; initiator = false }) h b h' b₁)
+      (t : Float) where
     abbrev k : Checked (opened_of (parts w h b t)) true
     k = ready.checked t
-
-    abbrev w' : List ℕ
-    w' = set w 4 0
 
     abbrev b' : List ℕ
     b' = set b₁ 775 0
@@ -100,8 +68,17 @@ module _ (w h b : List ℕ) (q : Bytes) (ready : Retiring w h b (length q)) wher
     lb : 4936 ≤ length b
     lb = long-bytes w h b t k.full
 
+    apart : Restaged h b h' b₁
+    apart = stages_apart h b lh lb (usable w h b t k).codes s
+
     l₁ : 4936 ≤ length b₁
-    l₁ = omega (arith, (stages_apart h b lh lb (usable w h b t k).codes s).size, lb)
+    l₁ = omega (arith, apart.size, lb)
+
+    low : (x y : ℕ) → y ≤ 16 → (x ≤ 4 → 4 < y → ⊥) → Agree x y w w'
+    low x y l out = record { same = λ i hi hj. r.only.below i (omega arith) (λ e. out (omega (arith, e)) (omega (arith, e))) }
+
+    high : (x y : ℕ) → 272 ≤ x → Agree x y w w'
+    high x y l = record { same = λ i hi hj. r.only.above i (omega arith) }
 
     same-disposition : at b 768 ≡ (opened_of (parts w h b t)).stage.disposition
     unfolding opened_of
@@ -109,71 +86,73 @@ module _ (w h b : List ℕ) (q : Bytes) (ready : Retiring w h b (length q)) wher
 
     restages : opened_of (parts w h' b₁ t) ≡ staged (opened_of (parts w h b t)).stage.disposition Retired (opened_of (parts w h b t))
     restages =
-        restaged w h b h' b₁ t lb (stages_apart h b lh lb (usable w h b t k).codes s) (at b 768) Retired (stage-retires h b lh lb (usable w h b t k).codes s)
+        restaged w h b h' b₁ t lb apart (at b 768) Retired (stage-retires h b lh lb (usable w h b t k).codes s)
         ∙ ap (λ (d : ℕ). staged d Retired (opened_of (parts w h b t))) same-disposition
 
     no_handoff : handoff_in w' b'
         ≡ record { body = (handoff_in w b₁).body; len = at w 7; id = at w 8; number = at w 9; sent = (handoff_in w b₁).sent; acknowledged = (handoff_in w b₁).acknowledged; present = false }
     no_handoff =
-        let g : Agree 5 784 w w' = agree_set w 4 0 5 784 (λ p q. omega arith) in
         let f : Agree 773 775 b₁ b' = agree_set b₁ 775 0 773 775 (λ p q. omega arith) in
-        let n : at w' 7 ≡ at w 7 = g.same 7 (omega arith) (omega arith) in
-        let i : at w' 8 ≡ at w 8 = g.same 8 (omega arith) (omega arith) in
-        let m : at w' 9 ≡ at w 9 = g.same 9 (omega arith) (omega arith) in
+        let n : at w' 7 ≡ at w 7 = r.only.below 7 (omega arith) (λ e. omega (arith, e)) in
+        let i : at w' 8 ≡ at w 8 = r.only.below 8 (omega arith) (λ e. omega (arith, e)) in
+        let m : at w' 9 ≡ at w 9 = r.only.below 9 (omega arith) (λ e. omega (arith, e)) in
         let x : at b' 773 ≡ at b₁ 773 = f.same 773 (omega arith) (omega arith) in
         let a : at b' 774 ≡ at b₁ 774 = f.same 774 (omega arith) (omega arith) in
         let p : at b' 775 ≡ 0 = get_or-set_same b₁ 775 0 0 (omega (arith, l₁)) in
-        let r : section 776 4096 b' ≡ section 776 4096 b₁ =
+        let z : section 776 4096 b' ≡ section 776 4096 b₁ =
         section-same 776 4096 b₁ b' (omega (arith, l₁)) (length-set b₁ 775 0) (agree_set b₁ 775 0 776 (776 + 4096) (λ y z. omega arith)) in
-        rw (n, i, m, x, a, p, r)
+        rw (n, i, m, x, a, p, z)
 
-    pub retires_in : (q' : Bytes) (end : ℕ) → end ≡ bodies h (at w 4) → q' ≡ placed q 0 (replicate (end - 0) 0) → Retires (opened_of (parts w h b t)) q (opened_of (parts w' h' b' t)) q'
+    -- the setup and the handoff lie apart from the queue
+    same-queue : queue_in w' h' b' ≡ queue_in w' h b
+    same-queue =
+        queue-same (agree_all 4 5 w') (agree_all 16 272 w') (agree_within (omega arith) (omega arith) apart.halves)
+        (agree_then (agree_within (omega arith) (omega arith) apart.low) (agree_set b₁ 775 0 512 768 (λ x y. omega arith)))
+
+    pub retires_in : Retires (opened_of (parts w h b t)) q (opened_of (parts w' h' b' t)) q'
     unfolding opened_of
-    retires_in q' end ee eq =
-        let x : ExactQueue (queue_in w h b) (length q) = exact-queue in
+    retires_in =
         subst (λ (z : SessionState). Retires (opened_of (parts w h b t)) q z q')
-        (sym (opened_as w' h' b' t (outbox-same (agree_set w 4 0 0 2 (λ p q. omega arith)) (agree_all 0 512 h') (agree_set b₁ 775 0 0 512 (λ p q. omega arith))) (get_or-set_other w 4 2 0 0 (λ e. omega (arith, e))) (get_or-set_other w 4 3 0 0 (λ e. omega (arith, e))) refl (numbers-same (omega (arith, lw)) (length-set w 4 0) (agree_set w 4 0 5 (5 + 1) (λ p q. omega arith)) (agree_set w 4 0 272 (272 + 512) (λ p q. omega arith))) (numbers-same (omega (arith, lw)) (length-set w 4 0) (agree_set w 4 0 6 (6 + 1) (λ p q. omega arith)) (agree_set w 4 0 784 (784 + 512) (λ p q. omega arith))) refl (ap stage_of (codes_same (agree_all 771 772 h') (agree_set b₁ 775 0 768 773 (λ p q. omega arith)))) no_handoff (policy-same (agree_set w 4 0 10 14 (λ p q. omega arith))) (reject-same l₁ (length-set b₁ 775 0) (agree_set w 4 0 14 15 (λ p q. omega arith)) (agree_set b₁ 775 0 4872 4936 (λ p q. omega arith)))))
-        (retires-is (opened_of (parts w h b t)) q (opened_of (parts w h' b₁ t)) (queue_in w' h' b') q' (cleared (queue_in w h b) (queue_in w' h' b') q q' x end (ee ∙ sym (end-bodies w h b x.few)) eq (length-seats 256 (queued_at w' h' b')) (get_or-set_same w 4 0 0 (omega (arith, lw)))) restages)
+        (sym (opened_as w' h' b' t (outbox-same (low 0 2 (omega arith) (λ x y. omega arith)) (agree_all 0 512 h') (agree_set b₁ 775 0 0 512 (λ p q. omega arith))) (r.only.below 2 (omega arith) (λ e. omega (arith, e))) (r.only.below 3 (omega arith) (λ e. omega (arith, e))) refl (numbers-same (omega (arith, lw)) r.only.words (low 5 (5 + 1) (omega arith) (λ x y. omega arith)) (high 272 (272 + 512) (omega arith))) (numbers-same (omega (arith, lw)) r.only.words (low 6 (6 + 1) (omega arith) (λ x y. omega arith)) (high 784 (784 + 512) (omega arith))) refl (ap stage_of (codes_same (agree_all 771 772 h') (agree_set b₁ 775 0 768 773 (λ p q. omega arith)))) no_handoff (policy-same (low 10 14 (omega arith) (λ x y. omega arith))) (reject-same l₁ (length-set b₁ 775 0) (low 14 15 (omega arith) (λ x y. omega arith)) (agree_set b₁ 775 0 4872 4936 (λ p q. omega arith)))))
+        (retires-is (opened_of (parts w h b t)) q (opened_of (parts w h' b₁ t)) (queue_in w' h' b') q'
+        (subst (λ (z : Queue). Repacked (queue_in w h b) q [] z q') (sym same-queue) r.repacked) restages)
 
 -- ---- everything under way is forgotten
 
-module _ (w h b : List ℕ) (o o' : Bytes) (exact : ExactOutbox (outbox_in w h b) (length o)) (lw : length w ≡ 1296) (lh : length h ≡ 772) (lb : length b ≡ 4936) where
-  abbrev w₁ : List ℕ
-  w₁ = set (set (set w 1 0) 5 0) 6 0
+module _ (w h b : List ℕ) (o o' : Bytes) (w₁ : List ℕ) (gone : Discards w h b o w₁ o') (lw : length w ≡ 1296) (lh : length h ≡ 772) (lb : length b ≡ 4936) where
+  abbrev w₂ : List ℕ
+  w₂ = set (set w₁ 5 0) 6 0
 
   abbrev h₁ : List ℕ
   h₁ = set (set h 769 (at h 768)) 770 (at h 768)
 
-  words : (c d : ℕ) → (c ≤ 1 → 1 < d → ⊥) → (c ≤ 5 → 5 < d → ⊥) → (c ≤ 6 → 6 < d → ⊥) → Agree c d w w₁
-  words c d x y z = agree_then (agree_then (agree_set w 1 0 c d x) (agree_set (set w 1 0) 5 0 c d y)) (agree_set (set (set w 1 0) 5 0) 6 0 c d z)
+  after : (c d : ℕ) → (c ≤ 5 → 5 < d → ⊥) → (c ≤ 6 → 6 < d → ⊥) → Agree c d w₁ w₂
+  after c d y z = agree_then (agree_set w₁ 5 0 c d y) (agree_set (set w₁ 5 0) 6 0 c d z)
+
+  words : (c d : ℕ) → 2 ≤ c → (c ≤ 5 → 5 < d → ⊥) → (c ≤ 6 → 6 < d → ⊥) → Agree c d w w₂
+  words c d x y z = agree_then (agree_past c d x gone.words) (after c d y z)
 
   halves : (c d : ℕ) → (c ≤ 769 → 769 < d → ⊥) → (c ≤ 770 → 770 < d → ⊥) → Agree c d h h₁
   halves c d x y = agree_then (agree_set h 769 (at h 768) c d x) (agree_set (set h 769 (at h 768)) 770 (at h 768) c d y)
 
-  size : length w₁ ≡ length w
-  size = length-set (set (set w 1 0) 5 0) 6 0 ∙ length-set (set w 1 0) 5 0 ∙ length-set w 1 0
+  size : length w₂ ≡ length w
+  size = length-set (set w₁ 5 0) 6 0 ∙ length-set w₁ 5 0 ∙ gone.words.size
 
-  no_messages : outbox_in w₁ h₁ b ≡ record { next = at w 0; records = seats 256 (unacked_at h b); count = 0 }
-  no_messages =
-      let n : at w₁ 0 ≡ at w 0 = (words 0 1 (λ p q. omega arith) (λ p q. omega arith) (λ p q. omega arith)).same 0 (omega arith) (omega arith) in
-      let c : at w₁ 1 ≡ 0 =
-      get_or-set_other (set (set w 1 0) 5 0) 6 1 0 0 (λ e. omega (arith, e)) ∙ get_or-set_other (set w 1 0) 5 1 0 0 (λ e. omega (arith, e)) ∙ get_or-set_same w 1 0 0 (omega arith) in
-      let r : seats 256 (unacked_at h₁ b) ≡ seats 256 (unacked_at h b) =
-      ap (λ (x : Outbox). x.records) (outbox-same (agree_all 0 2 w) (halves 0 512 (λ p q. omega arith) (λ p q. omega arith)) (agree_all 0 512 b)) in
-      rw (n, c, r)
+  no_messages : outbox_in w₂ h₁ b ≡ outbox_in w₁ h b
+  no_messages = outbox-same (after 0 2 (λ p q. omega arith) (λ p q. omega arith)) (halves 0 512 (λ p q. omega arith) (λ p q. omega arith)) (agree_all 0 512 b)
 
-  none-waiting : waiting_in w₁ ≡ record { values = section 272 512 w; count = 0 }
+  none-waiting : waiting_in w₂ ≡ record { values = section 272 512 w; count = 0 }
   none-waiting =
-      let c : at w₁ 5 ≡ 0 = get_or-set_other (set (set w 1 0) 5 0) 6 5 0 0 (λ e. omega (arith, e)) ∙ get_or-set_same (set w 1 0) 5 0 0 (omega (arith, length-set w 1 0)) in
-      let r : section 272 512 w₁ ≡ section 272 512 w =
-      section-same 272 512 w w₁ (omega arith) size (words 272 (272 + 512) (λ p q. omega arith) (λ p q. omega arith) (λ p q. omega arith)) in
+      let c : at w₂ 5 ≡ 0 = get_or-set_other (set w₁ 5 0) 6 5 0 0 (λ e. omega (arith, e)) ∙ get_or-set_same w₁ 5 0 0 (omega (arith, gone.words.size)) in
+      let r : section 272 512 w₂ ≡ section 272 512 w =
+      section-same 272 512 w w₂ (omega arith) size (words 272 (272 + 512) (omega arith) (λ p q. omega arith) (λ p q. omega arith)) in
       rw (c, r)
 
-  no_retries : retry_in w₁ ≡ record { values = section 784 512 w; count = 0 }
+  no_retries : retry_in w₂ ≡ record { values = section 784 512 w; count = 0 }
   no_retries =
-      let c : at w₁ 6 ≡ 0 = get_or-set_same (set (set w 1 0) 5 0) 6 0 0 (omega (arith, length-set (set w 1 0) 5 0, length-set w 1 0)) in
-      let r : section 784 512 w₁ ≡ section 784 512 w =
-      section-same 784 512 w w₁ (omega arith) size (words 784 (784 + 512) (λ p q. omega arith) (λ p q. omega arith) (λ p q. omega arith)) in
+      let c : at w₂ 6 ≡ 0 = get_or-set_same (set w₁ 5 0) 6 0 0 (omega (arith, length-set w₁ 5 0, gone.words.size)) in
+      let r : section 784 512 w₂ ≡ section 784 512 w =
+      section-same 784 512 w w₂ (omega arith) size (words 784 (784 + 512) (omega arith) (λ p q. omega arith) (λ p q. omega arith)) in
       rw (c, r)
 
   settled : (t : Float) → clock_in h₁ t ≡ record { last_replay_at = t; generation = at h 768; released = at h 768; persisted = at h 768 }
@@ -183,13 +162,12 @@ module _ (w h b : List ℕ) (o o' : Bytes) (exact : ExactOutbox (outbox_in w h b
       let z : at h₁ 770 ≡ at h 768 = get_or-set_same (set h 769 (at h 768)) 770 (at h 768) 0 (omega (arith, length-set h 769 (at h 768))) in
       rw (x, y, z)
 
-  pub forgets_in : (end : ℕ) → end ≡ end_u (outbox_in w h b) → o' ≡ placed o 0 (replicate (end - 0) 0) → (t : Float)
-      → Forgets (opened_of (parts w h b t)) o (opened_of (parts w₁ h₁ b t)) o'
+  pub forgets_in : (t : Float) → Forgets (opened_of (parts w h b t)) o (opened_of (parts w₂ h₁ b t)) o'
   unfolding opened_of
-  forgets_in end ee eo t =
+  forgets_in t =
       subst (λ (z : SessionState). Forgets (opened_of (parts w h b t)) o z o')
-      (sym (opened_as w₁ h₁ b t no_messages ((words 2 3 (λ p q. omega arith) (λ p q. omega arith) (λ p q. omega arith)).same 2 (omega arith) (omega arith)) ((words 3 4 (λ p q. omega arith) (λ p q. omega arith) (λ p q. omega arith)).same 3 (omega arith) (omega arith)) (queue-same (words 4 5 (λ p q. omega arith) (λ p q. omega arith) (λ p q. omega arith)) (words 16 272 (λ p q. omega arith) (λ p q. omega arith) (λ p q. omega arith)) (halves 512 768 (λ p q. omega arith) (λ p q. omega arith)) (agree_all 512 768 b)) none-waiting no_retries (settled t) (ap stage_of (codes_same (halves 771 772 (λ p q. omega arith) (λ p q. omega arith)) (agree_all 768 773 b))) (handoff-same (omega arith) refl (words 7 10 (λ p q. omega arith) (λ p q. omega arith) (λ p q. omega arith)) (agree_all 773 4872 b)) (policy-same (words 10 14 (λ p q. omega arith) (λ p q. omega arith) (λ p q. omega arith))) (reject-same (omega arith) refl (words 14 15 (λ p q. omega arith) (λ p q. omega arith) (λ p q. omega arith)) (agree_all 4872 4936 b))))
-      (forgets-is (opened_of (parts w h b t)) o _ o' (discarded (outbox_in w h b) o o' exact end ee eo))
+      (sym (opened_as w₂ h₁ b t no_messages ((words 2 3 (omega arith) (λ p q. omega arith) (λ p q. omega arith)).same 2 (omega arith) (omega arith)) ((words 3 4 (omega arith) (λ p q. omega arith) (λ p q. omega arith)).same 3 (omega arith) (omega arith)) (queue-same (words 4 5 (omega arith) (λ p q. omega arith) (λ p q. omega arith)) (words 16 272 (omega arith) (λ p q. omega arith) (λ p q. omega arith)) (halves 512 768 (λ p q. omega arith) (λ p q. omega arith)) (agree_all 512 768 b)) none-waiting no_retries (settled t) (ap stage_of (codes_same (halves 771 772 (λ p q. omega arith) (λ p q. omega arith)) (agree_all 768 773 b))) (handoff-same (omega arith) refl (words 7 10 (omega arith) (λ p q. omega arith) (λ p q. omega arith)) (agree_all 773 4872 b)) (policy-same (words 10 14 (omega arith) (λ p q. omega arith) (λ p q. omega arith))) (reject-same (omega arith) refl (words 14 15 (omega arith) (λ p q. omega arith) (λ p q. omega arith)) (agree_all 4872 4936 b))))
+      (forgets-is (opened_of (parts w h b t)) o (outbox_in w₁ h b) o' gone.left)
 
 -- ---- the call
 

@@ -18,9 +18,7 @@ fn retired(words: &mut Words, halves: &mut Halves, bytes: &mut Bytes, queue: &mu
     requires { Retiring words.old halves.old bytes.old (length queue.old) }
     ensures { RetiresIn words.old halves.old bytes.old queue.old words.new halves.new bytes.new queue.new }
 {
-    let end = link_queue::start(halves, words[parts::QUEUED] as usize);
-    stores::clear(queue, 0, end);
-    words[parts::QUEUED] = 0;
+    link_queue::clear(words, halves, bytes, queue);
     let disposition = bytes[parts::DISPOSITION];
     let terms = Terms {
         number: 0,
@@ -35,9 +33,7 @@ fn forget(words: &mut Words, halves: &mut Halves, bytes: &Bytes, outbound: &mut 
     requires { ExactOutbox (outbox_in words.old halves.old bytes.now) (length outbound.old) }
     ensures { ForgetsIn words.old halves.old bytes.now outbound.old words.new halves.new outbound.new }
 {
-    let end = link_outbox::used(halves, words[parts::UNACKED] as usize);
-    stores::clear(outbound, 0, end);
-    words[parts::UNACKED] = 0;
+    link_draining::discard(words, halves, bytes, outbound);
     words[parts::WAITING] = 0;
     words[parts::RETRIES] = 0;
     let generation = halves[parts::GENERATION];
