@@ -3,6 +3,7 @@
 use crate::{Buffers, fields};
 use scripts::Fields;
 
+// Kept beside `starts::Reliable`: the reader stands on the crate `rules` alone, and on none that starts a session.
 #[derive(Clone, Copy)]
 pub struct Numbers {
     pub message_number: u64,
