@@ -106,5 +106,3 @@ module _ (status : HostStatus) (f : Frame) (w h b : List ℕ) (t : Float) (l : L
 
   pub arriving : z ≡ Ok tt → Arriving f w h b t l d o q
   arriving ez = record { arrived = arrives l d o q e t ez; kind = ltb-false 2 f.kind (found_by l d o q e t (Ok tt) ez).known }
-
--- ---- the answer

@@ -13,4 +13,3 @@ take_now-requires c =
 pub enqueue-requires : goal.enqueue-requires
 enqueue-requires c =
     choosing c.args.words.now c.args.halves.now c.args.bytes.now c.args.clock.now c.requires c.turn_of-t.ensures false c.args.status c.delivers.ensures c.if-delivers.false
-
