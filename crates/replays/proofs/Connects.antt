@@ -36,6 +36,13 @@ use Rattle.session.proofs.Clocks.{clocked, exact_clocked}
 use Rattle.session.proofs.WithList as W
 use Rattle.session.proofs.WithList.{list_wrong, list_unsound, list-answers, list_meets}
 
+one_of_five : (x : Connectivity) → not (leb 1 (connectivity_number x) && leb (connectivity_number x) 5) ≡ false
+one_of_five Disconnected = refl
+one_of_five Reconnected = refl
+one_of_five PeerUnavailable = refl
+one_of_five Registered = refl
+one_of_five PeerAvailable = refl
+
 pub up_to_three : (x : Connectivity) → leb 4 (connectivity_number x) ≡ false → (1 ≤ connectivity_number x) × (connectivity_number x ≤ 3)
 up_to_three Disconnected e = (omega arith, omega arith)
 up_to_three Reconnected e = (omega arith, omega arith)
