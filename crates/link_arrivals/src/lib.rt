@@ -43,7 +43,8 @@ pub fn receive_again(
     }
 }
 
-// Data that is delivered now: what was queued up to its number goes.
+// Data that is delivered now: what was queued up to its number goes. Of the eleven parameters of this and of enqueue eight are what C lends: the four
+// parts, the list and the stores.
 fn take_now(
     words: &mut Words,
     halves: &mut Halves,
