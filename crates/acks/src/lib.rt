@@ -18,7 +18,7 @@ use session::{ANY, Returned, Told};
 
 // ---- an ack
 
-// Lists event number n with a code and a number, where it is to go. Returns the next event's number.
+// Lists event number n with a code and a number, where it is to go. Returns the next event's number. The code is the list's word, as `events::emit` takes it.
 fn list_if(goes: bool, list: &mut [u64], n: usize, code: u64, number: u64) -> usize
     requires { 4 * n + 4 ≤ length list.old }
     ensures { ListedIf goes code number list.old n list.new result }

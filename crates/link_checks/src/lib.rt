@@ -51,7 +51,7 @@ pub fn enters(
 
 // ---- checks
 
-// 26: the acks that wait and the frames in the queue are 512 together, and the number is in neither, nor answered by code 10.
+// 26: the acks that wait and the frames in the queue are 512 together, and the number is in neither, nor answered by code 10. One test a line, as the paper.
 fn acks_full(words: &Words, number: u64) -> bool
     requires { Countable words.now }
     ensures { Filled number words.now result }

@@ -11,7 +11,8 @@ use delivery::Step;
 use parts::{Bytes, Halves, LinkAnswer, Words};
 use rules::{HostStatus, ReceiveMode};
 
-// The queue of a sound session begins above remote: nothing in it is obsolete. A refusal that ends the drain is not returned.
+// The queue of a sound session begins above remote: nothing in it is obsolete. A refusal that ends the drain is not returned. The mode comes as its number,
+// which is what is stored: read as a ReceiveMode it would be turned back at once.
 fn ready(
     words: &mut Words,
     halves: &mut Halves,

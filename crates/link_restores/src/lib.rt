@@ -19,7 +19,7 @@ use starts::Record;
 
 // ---- the handoff
 
-// Whether the handoff that is there is the one given.
+// Whether the handoff that is there is the one given, test by test as `restores` has it.
 fn same_handoff(words: &Words, bytes: &Bytes, given: Given) -> bool
     requires { at words.now 7 ≤ 4096 }
     ensures { result ≡ same_handoff (held_in (handoff_in words.now bytes.now)) (lent_handoff given.entry) }

@@ -23,7 +23,7 @@ use Rattle.outbox.specs.declared.Outbox.{Outbox}
 use Rattle.outbox.specs.View.{len_u, unacked, unacked_of, end_u, blank_u, ExactOutbox}
 use Rattle.outbox.specs.Records.{survives_u}
 use Rattle.outbox.specs.Steps.{Left}
-use Rattle.outbox.specs.Sweeps.{Sweep, Lowers, stay, todo, ends, left, Sweeping, Swept}
+use Rattle.outbox.specs.Sweeps.{Sweep, stay, todo, ends, left, Sweeping, Swept}
 
 -- a body that is in its place
 pub placed_same : (s : Bytes) (i n : ℕ) → i + n ≤ length s → s ≡ placed s i (take n (drop i s))
@@ -200,15 +200,6 @@ module _ (ack : ℕ) (w : Sweep) (n : ℕ) (s : Bytes) (g : Sweeping w n (length
 pub counted : (b : Bool) (n : ℕ) {m : ℕ} → m ≡ bool_byte b → n + m ≡ (if b then n + 1 else n)
 counted true n e = ap (λ (k : ℕ). n + k) e
 counted false n e = ap (λ (k : ℕ). n + k) e ∙ add-zero n
-
--- a body that is moved down, by whether its record stays
-module _ (b : Bool) (to from n : ℕ) (s : Bytes) where
-  pub lowered : {s' : Bytes} → b ≡ true → s' ≡ placed s to (take n (drop from s)) → Lowers b to from n s s' (to + n)
-  lowered e h =
-      record {
-        store = h ∙ sym (ap (λ (t : Bool). if t then placed s to (take n (drop from s)) else s) e);
-        end = sym (ap (λ (t : Bool). if t then to + n else to) e);
-      }
 
 -- what the loop keeps that sweeps from w₀ and s₀ on
 pub record Turns (ack n : ℕ) (w₀ : Sweep) (s₀ : Bytes) (w : Sweep) (s : Bytes) : Type 0 where

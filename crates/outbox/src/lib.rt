@@ -50,6 +50,8 @@ pub struct Place {
 
 // ---- whether an outbox is one that calls leave
 
+// Tests stand one a line, as document 01 lists them, each with its return: `&&` over all of them would read no plainer.
+
 // Whether a record may follow those up to number last, whose bodies have sum bytes.
 pub fn admits_unacked(u: Unacked, last: u64, sum: usize, next: u64) -> bool
     requires { sum ≤ 65536 }

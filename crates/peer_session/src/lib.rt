@@ -244,6 +244,8 @@ pub fn broken(s: SessionState, queue: &mut [u8]) -> SessionState
 
 // ---- whether a session is one that calls leave
 
+// Tests stand one a line, as document 01 lists them, each with its return: `&&` over all of them would read no plainer.
+
 pub fn sound_acks(w: Numbers, r: Numbers, queued: usize, remote: u64) -> bool
     ensures { result ≡ sound_acks w r queued remote }
 {

@@ -29,6 +29,8 @@ pub struct Queue {
 
 // ---- sound
 
+// Tests stand one a line, as document 01 lists them, each with its return: `&&` over all of them would read no plainer.
+
 fn admits_queued(u: Queued, last: u64, sum: usize, p: Policy) -> bool
     requires { sum ≤ p.bytes }
     ensures { result ≡ admits_queued p last sum u }
@@ -127,7 +129,7 @@ pub fn used(q: Queue) -> usize
 
 // ---- put in
 
-// A frame goes in at index at; the later ones, and their bytes, move up.
+// A frame goes in at index at; the later ones, and their bytes, move up. It comes as number, kind and body, here and below: the struct Frame lies above.
 pub fn insert_at(q: Queue, store: &mut [u8], at: usize, number: u64, kind: u8, body: &[u8]) -> Queue
     requires { Room q (length store.old) at (length body.now) }
     ensures { Repacked q store.old (with_at at (arrived number kind body.now) (frames_of q store.old)) result store.new }

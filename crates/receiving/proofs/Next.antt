@@ -1,8 +1,8 @@
 -- Data that is no duplicate: whether it is delivered now. Assumes nothing.
-use mathlib.Core.Path.{◌≡◌, sym, ap, ◌∙◌, subst}
+use mathlib.Core.Path.{◌≡◌, sym, ◌∙◌, subst}
 use mathlib.Core.Bool.{Bool}
 use mathlib.Core.List.{List}
-use Prim.Native.Nat.{ℕ, ◌<◌}
+use Prim.Native.Nat.{ℕ}
 use Rattle.rules.specs.declared.HostStatus.{HostStatus}
 use Rattle.rules.specs.Lists.{Bytes}
 use Rattle.rules.specs.State.{Frame}
@@ -14,10 +14,6 @@ use Rattle.delivery.specs.declared.Turn.{Turn}
 use Rattle.draining.specs.Turns.{turn_of}
 use Rattle.receiving.specs.Checks.{Receiving, Taking, Delivers}
 use Rattle.draining.proofs.Settled.{begins}
-
-module _ {f : Frame} {s : SessionState} {l : List ℕ} {d o q : Bytes} (pre : Receiving f s l d o q) {t : Turn} (e : t ≡ turn_of s) where
-  pub new-above : t.remote < f.number
-  new-above = subst (λ (k : ℕ). k < f.number) (sym (ap (λ (z : Turn). z.remote) e)) pre.frame.new
 
 pub taking : (now : Bool) (status : HostStatus) {f : Frame} {s : SessionState} {l : List ℕ} {d o q : Bytes} → Receiving f s l d o q → {t : Turn} → t ≡ turn_of s → {r : Bool}
     → Delivers status f.number f.kind t r → r ≡ now → Taking now status t f s l d o q

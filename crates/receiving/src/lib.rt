@@ -28,7 +28,7 @@ pub enum Verdict {
 
 // ---- checks
 
-// 26: the acks that wait and the frames in the queue are 512 together, and the number is in neither, nor answered by code 10.
+// 26: the acks that wait and the frames in the queue are 512 together, and the number is in neither, nor answered by code 10. One test a line, as the paper.
 fn acks_full(s: SessionState, number: u64) -> bool
     requires { (ExactNumbers s.waiting) × (s.queue.count ≤ 256) }
     ensures { Filled number s result }

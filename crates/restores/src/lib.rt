@@ -86,6 +86,7 @@ fn taken(s: SessionState, outbound: &mut [u8], record: Record) -> SessionState
 
 // ---- the handoff
 
+// Tests stand one a line, as document 01 lists them, each with its return: `&&` over all of them would read no plainer.
 fn same_handoff(h: TerminalHandoff, given: Given) -> bool
     requires { h.len ≤ length h.body }
     ensures { result ≡ same_handoff (held_in h) (lent_handoff given.entry) }

@@ -35,6 +35,8 @@ pub struct Record<'a> {
 
 // ---- the checks of a record
 
+// Tests stand one a line, as document 01 lists them, each with its return: `&&` over all of them would read no plainer.
+
 // Whether the first count lengths name no more than limit bytes: counted down, so that no sum can overflow.
 fn fits(lengths: &[u64], count: usize, limit: usize) -> bool
     requires { count ≤ length lengths.now }
