@@ -24,6 +24,7 @@ use Rattle.peer_session.specs.declared.SessionState.{SessionState}
 use Rattle.peer_session.specs.View.{state_of}
 use Rattle.peer_session.specs.Sound.{sound_of, Checked}
 use Rattle.session.specs.Promise.{CalledWithOutbound}
+use Rattle.session.specs.Entry.{Admitted}
 use Rattle.peer_session.proofs.View as View
 use Rattle.setup.proofs.Lending as L
 use Rattle.sending.proofs.Sends as S
@@ -188,3 +189,7 @@ turned {c} g p l o {x} k e = refuses p x e (λ r u d q lq. k.call c g l d o q re
 pub a-send : (body : Bytes) → Sending (sends body)
 unfolding taken_by wrong_code queue_reach step send
 a-send body = record { queued = false; taken = refl; known = refl; reach = λ s. refl; refuses = λ s h. rw (le-leb 4294966000 s.clock.generation h) }
+
+-- what a send has past its entry
+pub ready_to_send : {p : Parts} {n d m q : ℕ} {wrong : Bool} → Admitted (opened_of p) n d m q wrong true → Ready p n m
+ready_to_send a = record { checked = record { is = sym a.sound; full = a.full }; list = a.list; outbound = a.outbound; low = a.low refl }

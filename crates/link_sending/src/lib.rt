@@ -12,6 +12,7 @@ ghost use Rattle.link_sending.specs.Sends.{Ready, Enters, AllocatesIn};
 use parts::{Bytes, Halves, LinkAnswer, Words};
 use peer_session::SessionState;
 use rules::Refusal;
+use session::ANY;
 
 // The tests at the entry of a call that sends a message, in their order: of a send, a reject and a command; an ack makes them too.
 pub fn enters(
@@ -102,7 +103,18 @@ pub fn send(
 ) -> LinkAnswer
     ensures { Driven (parts words.old halves.old bytes.old clock.now) (parts words.new halves.new bytes.new clock.now) result (λ s y. CalledWithOutbound (sends body.now) s list.old outbound.old y list.new outbound.new) }
 {
-    match enters(words, halves, bytes, list.len(), outbound.len()) {
+    let entered = link_entry::enters(
+        words,
+        halves,
+        bytes,
+        list.len(),
+        ANY,
+        outbound.len(),
+        ANY,
+        false,
+        true,
+    );
+    match entered {
         Ok(()) => goes(words, halves, bytes, clock, list, outbound, body),
         Err(x) => link_codes::refusal(x),
     }

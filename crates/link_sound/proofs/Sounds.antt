@@ -64,7 +64,7 @@ frame-room w h b i last sum e = (admits-fits (policy_in w) last sum (queued_at w
 -- ---- all of it
 
 module _ (w h b : List ℕ) (s : Sized w b) (t : Float) where
-  full : Full (opened_of (parts w h b t))
+  pub full : Full (opened_of (parts w h b t))
   unfolding opened_of
   full =
       record {

@@ -1,5 +1,19 @@
-use Rattle.link_sending.proofs.Sends.{turned, a-send}
+use mathlib.Core.Path.{refl}
+use Rattle.rules.specs.Calls.{sends}
+use Rattle.rules.specs.Buffers.{taken_by, short, wrong_code, queue_reach}
+use Rattle.session.specs.Promise.{lent}
+use Rattle.session.proofs.Entries.{stops}
+use Rattle.sending.proofs.Sends.{spent}
+use Rattle.parts.specs.Parts.{parts, opened_of}
+use Rattle.parts.proofs.Drives.{refuses}
+use Rattle.link_sending.proofs.Sends.{ready_to_send}
 use Rattle.link_sending.proofs.send.Goals as goal
 
+pub goes-requires : goal.goes-requires
+goes-requires c = ready_to_send (c.in-Ok.ensures.passed c.args.clock.now)
+
 pub returns-in-Err : goal.returns-in-Err
-returns-in-Err c = turned (a-send c.args.body.now) _ c.args.list.now c.args.outbound.now (c.in-Err.ensures c.args.clock.now) c.refusal.ensures
+unfolding taken_by short wrong_code queue_reach
+returns-in-Err c =
+    let p = parts c.args.words.now c.args.halves.now c.args.bytes.now c.args.clock.now in
+    refuses p _ c.refusal.ensures (λ r u d q lq. stops (sends c.args.body.now) (opened_of p) (lent c.args.list.now d c.args.outbound.now q) (c.enters-entered.ensures.tested c.args.clock.now) c.in-Err.is u refl refl (λ h. h) (λ h. lq) (λ e k t h. (spent c.args.body.now t h, refl)))
