@@ -43,8 +43,8 @@ use Rattle.link_outbox.specs.Steps.{Drops}
 use Rattle.link_sound.proofs.Parts.{Usable, usable}
 use Rattle.link_codes.proofs.Enums.{stage-good}
 use Rattle.link_draining.specs.Steps.{Failing}
-use Rattle.link_sending.specs.Sends.{Ready, Sending, Found}
-use Rattle.link_acks.specs.Acks.{AckTurns, AckFound, outside, BeyondIn, raised_if}
+use Rattle.link_sending.specs.Sends.{Ready}
+use Rattle.link_acks.specs.Acks.{outside, BeyondIn, raised_if}
 use Rattle.link_sound.proofs.Lengths.{bytes-long}
 
 -- ---- what good codes say
@@ -197,27 +197,3 @@ module _ (w h b : List ℕ) (t : Float) (l : List ℕ) (o : Bytes) (number : ℕ
   broke out q lq {p'} g =
       changes (parts w h b t) (sym ready.checked.is) p' (opened_of p') refl (Refused AckOutOfRange) g.events g.answers
       (λ v. A.fails number (opened_of (parts w h b t)) l o q v ready.list ready.outbound lq (sym ready.checked.is) ready.checked.full ready.low out g.breaks)
-
--- ---- the tests
-
-an-ack : (number : ℕ) → Sending (gets_ack number)
-unfolding taken_by wrong_code queue_reach step receive_ack
-an-ack number = record { queued = true; taken = refl; known = refl; reach = λ s. refl; refuses = λ s h. rw (le-leb 4294966000 s.clock.generation h) }
-
-module _ (p : Parts) (n m k : ℕ) where
-  pub short-queue : k < 32768 → AckTurns p n m k ShortBuffer
-  short-queue h = record { call = λ l o q el eo eq number r t d. A.queue-short number (opened_of p) l o q d t (omega (arith, eq)) }
-
-  -- with a queue store as long as it is to be, what a send's tests find
-  pub found-so : 32768 ≤ k → (r : Result (Unit {0}) Refusal) → Found p n m r → AckFound p n m k r
-  found-so lk (Ok u) ready = (ready, lk)
-  found-so lk (Err x) f = record { call = λ l o q el eo eq number r t d. f.call (gets_ack number) (an-ack number) l d o q el eo (omega (arith, eq)) r t }
-
--- a refusal by them, or none
-pub turned : (p : Parts) (l : List ℕ) (o q : Bytes) (number : ℕ) {r : Result (Unit {0}) Refusal} {x : Refusal} → AckFound p (length l) (length o) (length q) r → r ≡ Err x
-    → {y : LinkAnswer} → y ≡ answer_of (Refused x) 0 → Driven p p y (λ s r. CalledWithStores (gets_ack number) s l o q r l o q)
-turned p l o q number k e f =
-    refuses p _ f (λ v u. (subst (λ (z : Result (Unit {0}) Refusal). AckFound p (length l) (length o) (length q) z) e k).call l o q refl refl refl number v u)
-
-pub fits : (p : Parts) (n m k : ℕ) {r : Result (Unit {0}) Refusal} → AckFound p n m k r → r ≡ Ok tt → Ready p n m × (32768 ≤ k)
-fits p n m k found e = subst (λ (z : Result (Unit {0}) Refusal). AckFound p n m k z) e found

@@ -1,30 +1,13 @@
 -- The steps of an ack on the parts of a session. Assumes nothing.
 use Rattle.std.specs.Prelude.{ℕ, ◌+◌, ◌-◌, ◌≤◌, ◌≡◌, Bool, true, false, ◌||◌, List, ltb, Float, length, Result, Ok, Err}
 use Rattle.rules.specs.declared.Answer.TheVariants.{Refused}
-use Rattle.rules.specs.declared.Refusal.{Refusal}
 use Rattle.rules.specs.declared.Refusal.TheVariants.{AckOutOfRange}
 use Rattle.rules.specs.Lists.{Bytes}
-use Rattle.rules.specs.Calls.{gets_ack}
 use Rattle.session.specs.declared.Returned.{Returned}
-use Rattle.session.specs.Promise.{CalledWithStores, Turned}
 use Rattle.acks.specs.Steps.{OutOfRange}
 use Rattle.parts.specs.declared.LinkAnswer.{LinkAnswer}
 use Rattle.parts.specs.Codes.{answer_of}
-use Rattle.parts.specs.Parts.{Parts, parts, opened_of}
-use Rattle.link_sending.specs.Sends.{Ready}
-
--- ---- the tests: the queue store's length, and a send's
-
-pub record AckTurns (p : Parts) (n m k : ℕ) (x : Refusal) : Type 0 where
-  pub call : (l : List ℕ) (o q : Bytes) → length l ≡ n → length o ≡ m → length q ≡ k → (number : ℕ) (r : Returned) → Turned (opened_of p) x r
-      → CalledWithStores (gets_ack number) (opened_of p) l o q r l o q
-
-abbrev pub AckFound : Parts → ℕ → ℕ → ℕ → Result (Unit {0}) Refusal → Type 0
-AckFound p n m k (Ok tt) = Ready p n m × (32768 ≤ k)
-AckFound p n m k (Err x) = AckTurns p n m k x
-
-abbrev pub AckEnters : List ℕ → List ℕ → List ℕ → ℕ → ℕ → ℕ → Result (Unit {0}) Refusal → Type 0
-AckEnters w h b n m k r = (t : Float) → AckFound (parts w h b t) n m k r
+use Rattle.parts.specs.Parts.{Parts, opened_of}
 
 -- ---- an ack of no message that was sent, by the next message's number
 

@@ -9,28 +9,11 @@ ghost use Rattle.parts.specs.Parts.{parts, at, flag};
 ghost use Rattle.parts.specs.Driven.{Driven};
 ghost use Rattle.link_sending.specs.Sends.{Ready};
 ghost use Rattle.link_draining.specs.Steps.{Failing};
-ghost use Rattle.link_acks.specs.Acks.{AckEnters, outside, BeyondIn, raised_if};
+ghost use Rattle.link_acks.specs.Acks.{outside, BeyondIn, raised_if};
 
 use parts::{Bytes, Halves, LinkAnswer, Words};
-use peer_session::SessionState;
 use rules::{Answer, Disposition, ReceiveMode, Refusal};
-
-// The tests of an ack: the queue store's length, and a send's. A short list and a short store are one refusal, so their order is no matter.
-fn ack_enters(
-    words: &Words,
-    halves: &Halves,
-    bytes: &Bytes,
-    list: usize,
-    outbound: usize,
-    queue: usize,
-) -> Result<(), Refusal>
-    ensures { AckEnters words.now halves.now bytes.now list outbound queue result }
-{
-    if queue < SessionState::QUEUE_BYTES {
-        return Err(Refusal::ShortBuffer);
-    }
-    link_sending::enters(words, halves, bytes, list, outbound)
-}
+use session::ANY;
 
 // Whether an ack is of no message that was sent.
 fn out_of_range(next: u64, number: u64) -> bool
@@ -139,15 +122,18 @@ pub fn ack(
 ) -> LinkAnswer
     ensures { Driven (parts words.old halves.old bytes.old clock.now) (parts words.new halves.new bytes.new clock.now) result (λ s y. CalledWithStores (gets_ack number) s list.old outbound.old queue.old y list.new outbound.new queue.new) }
 {
-    let stop = ack_enters(
+    let entered = link_entry::enters(
         words,
         halves,
         bytes,
         list.len(),
+        ANY,
         outbound.len(),
         queue.len(),
+        false,
+        true,
     );
-    match stop {
+    match entered {
         Err(x) => link_codes::refusal(x),
         Ok(()) => {
             if out_of_range(words[parts::NEXT], number) {

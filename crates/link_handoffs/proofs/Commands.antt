@@ -14,9 +14,13 @@ use Rattle.rules.specs.declared.Refusal.TheVariants.{HandoffTooLong}
 use Rattle.rules.specs.Lists.{Bytes}
 use Rattle.rules.specs.Handoff.{Command, command_size}
 use Rattle.rules.specs.Calls.{commands}
+use Rattle.rules.specs.Buffers.{taken_by, short, wrong_code, queue_reach}
 use Rattle.outbox.specs.View.{ExactOutbox}
 use Rattle.peer_session.specs.View.{state_of}
-use Rattle.session.specs.Promise.{CalledWithOutbound}
+use Rattle.session.specs.Promise.{lent, CalledWithOutbound}
+use Rattle.session.specs.Entry as Tests
+use Rattle.session.specs.Entry.{any_length}
+use Rattle.session.proofs.Entries.{stops}
 use Rattle.session.proofs.Lengths.{not_taken}
 use Rattle.setup.proofs.Lending as L
 use Rattle.handoffs.specs.Commands.{commanding, Holding}
@@ -28,18 +32,19 @@ use Rattle.parts.specs.Driven.{Driven}
 use Rattle.parts.proofs.Drives.{refuses}
 use Rattle.link_sound.proofs.Parts.{usable}
 use Rattle.link_setup.proofs.Stages.{long-bytes}
-use Rattle.link_sending.specs.Sends.{Ready, Sending, Turns}
+use Rattle.link_sending.specs.Sends.{Ready}
 use Rattle.link_handoffs.specs.Commands.{NotCommanding, Enters, Starts, ComesIn, HoldingIn}
 use Rattle.link_handoffs.proofs.Steps.{started, still_checked, still_low}
 
--- ---- the tests, after a send's
+-- ---- the tests
 
-a-command-call : (restoring : Bool) (c : Option Command) → Sending (commands restoring c)
-a-command-call restoring c = record { queued = false; taken = plain.taken; known = plain.known; reach = plain.reach; refuses = spent restoring c }
-
-pub stopped_before : (p : Parts) {n m k : ℕ} {x : Refusal} → Turns p n m x → NotCommanding p n m k x
-stopped_before p f =
-    record { call = λ restoring c e l o d q. f.call (commands restoring c) (a-command-call restoring c) l d o q }
+pub stopped_at_entry : {p : Parts} {n m k : ℕ} {x : Refusal} → Tests.Enters (opened_of p) n any_length m any_length false true (Err x) → NotCommanding p n m k x
+unfolding taken_by short wrong_code queue_reach
+stopped_at_entry {p} en =
+    record {
+      call = λ restoring c e l o d q el eo lq r t.
+          stops (commands restoring c) (opened_of p) (lent l d o q) (rw (sym el, sym eo) at en) refl t refl refl (λ h. h) (λ h. lq) (λ z i s h. (spent restoring c s h, refl));
+    }
 
 module _ (p : Parts) {n m k : ℕ} (ready : Ready p n m) where
   pub size_too_long : 4096 < k → NotCommanding p n m k HandoffTooLong

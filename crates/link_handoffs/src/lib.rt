@@ -20,6 +20,7 @@ use parts::{Bytes, Halves, LinkAnswer, SetupCode, Words};
 use peer_session::SessionState;
 use restores::Given;
 use rules::{Refusal, Terms};
+use session::ANY;
 
 // The tests of a command, in their order, a send's first: size is how many bytes of its body count.
 fn enters(
@@ -32,7 +33,9 @@ fn enters(
 ) -> Result<(), Refusal>
     ensures { Enters words.now halves.now bytes.now list outbound size result }
 {
-    link_sending::enters(words, halves, bytes, list, outbound)?;
+    link_entry::enters(
+        words, halves, bytes, list, ANY, outbound, ANY, false, true,
+    )?;
     if SessionState::MAX_HANDOFF < size {
         return Err(Refusal::HandoffTooLong);
     }

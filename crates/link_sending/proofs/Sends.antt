@@ -1,32 +1,24 @@
 -- A send on the parts of a session, by what it leaves of them. Assumes nothing.
 use Prim.Native.Nat.{ℕ, ◌+◌, ◌≤◌, ◌<◌}
 use mathlib.Core.Path.{◌≡◌, refl, sym, ap, ◌∙◌, subst}
-use mathlib.Core.Bool.{Bool, true, false}
+use mathlib.Core.Bool.{Bool, true}
 use mathlib.Core.List.{List}
 use native.Mathlib.Omega.{arith}
 use lib.Ieee.{Float}
 use lib.ListN.{length, set, length-set, length-take, length-drop}
 use lib.Seq.{get_or-set_same, get_or-set_other}
-use borrow.Author.Tests.{le-leb}
 use Rattle.rules.specs.declared.Answer.TheVariants.{Number, Refused}
 use Rattle.rules.specs.declared.Refusal.{Refusal}
-use Rattle.rules.specs.declared.Refusal.TheVariants.{ShortBuffer, BadRecord, GenerationsExhausted}
 use Rattle.rules.specs.declared.Clock.{Clock}
 use Rattle.rules.specs.Lists.{Bytes, total}
-use Rattle.rules.specs.Sending.{send}
-use Rattle.rules.specs.Calls.{Call, sends, step}
-use Rattle.rules.specs.Buffers.{taken_by, wrong_code, queue_reach}
+use Rattle.rules.specs.Calls.{sends}
 use Rattle.std.specs.Prelude.{Ok, Err}
 use Rattle.outbox.specs.View.{len_u, end_u, ExactOutbox}
 use Rattle.peer_session.specs.Allocates.{Allocates}
 use Rattle.events.specs.Written.{Listed, asked}
-use Rattle.peer_session.specs.declared.SessionState.{SessionState}
-use Rattle.peer_session.specs.View.{state_of}
-use Rattle.peer_session.specs.Sound.{sound_of, Checked}
 use Rattle.session.specs.Promise.{CalledWithOutbound}
 use Rattle.session.specs.Entry.{Admitted}
 use Rattle.peer_session.proofs.View as View
-use Rattle.setup.proofs.Lending as L
 use Rattle.sending.proofs.Sends as S
 use Rattle.parts.specs.declared.LinkAnswer.{LinkAnswer}
 use Rattle.parts.specs.Codes.{answer_of}
@@ -39,7 +31,8 @@ use Rattle.parts.proofs.After.{Kept, other, after, agree_all}
 use Rattle.parts.proofs.Drives.{changes, refuses}
 use Rattle.link_outbox.specs.Steps.{Joins}
 use Rattle.link_outbox.proofs.Records.{past_same}
-use Rattle.link_sending.specs.Sends.{Ready, Sending, Turns, AllocatesIn}
+use Rattle.link_entry.proofs.Entered.{checked}
+use Rattle.link_sending.specs.Sends.{Ready, AllocatesIn}
 
 -- ---- a message joined and the generation is raised: the session that the parts are then
 
@@ -148,48 +141,6 @@ pub low_generation : (w h b : List ℕ) (t : Float) {n m : ℕ} → Ready (parts
 unfolding opened_of
 low_generation w h b t r = r.low
 
--- ---- the tests
-
--- what a test of soundness found, by its answer
-pub found-sound : {s : SessionState} {r : Bool} → Checked s r → r ≡ true → Checked s true
-found-sound k e = record { is = sym e ∙ k.is; full = k.full }
-
-plain : {c : Call} (g : Sending c) → L.Plain c true true g.queued
-plain g = record { taken = g.taken; known = g.known; reach = g.reach }
-
-module _ (p : Parts) {n m : ℕ} where
-  pub short-list : n < 4096 → Turns p n m ShortBuffer
-  short-list h = record { call = λ c g l d o q el eo lq r t. L.list-short (plain g) (opened_of p) l d o q refl t (omega (arith, el)) }
-
-  pub short-outbound : m < 65536 → Turns p n m ShortBuffer
-  short-outbound h = record { call = λ c g l d o q el eo lq r t. L.outbound-short (plain g) (opened_of p) l d o q refl t (omega (arith, eo)) }
-
-  module _ (ln : 4096 ≤ n) (lm : 65536 ≤ m) where
-    pub unsound : sound_of (opened_of p) ≡ false → Turns p n m BadRecord
-    unsound e =
-        record {
-          call = λ c g l d o q el eo lq r t.
-              L.unsound (plain g) (opened_of p) l d o q (λ x. omega (arith, el)) (λ x. omega (arith, eo)) (λ x. lq) t e;
-        }
-
-    pub spent : Checked (opened_of p) true → 4294966000 ≤ (opened_of p).clock.generation → Turns p n m GenerationsExhausted
-    spent k h =
-        record {
-          call = λ c g l d o q el eo lq r t.
-              L.refused (plain g) (opened_of p) l d o q (λ x. omega (arith, el)) (λ x. omega (arith, eo)) (λ x. lq) (sym k.is) k.full (omega (arith, eo)) lq t
-              (g.refuses (state_of (opened_of p) o q) h);
-        }
-
--- a refusal by them
-pub turned : {c : Call} → Sending c → (p : Parts) (l : List ℕ) (o : Bytes) {x : Refusal} → Turns p (length l) (length o) x → {y : LinkAnswer} → y ≡ answer_of (Refused x) 0
-    → Driven p p y (λ s r. CalledWithOutbound c s l o r l o)
-turned {c} g p l o {x} k e = refuses p x e (λ r u d q lq. k.call c g l d o q refl refl lq r u)
-
--- of a send
-pub a-send : (body : Bytes) → Sending (sends body)
-unfolding taken_by wrong_code queue_reach step send
-a-send body = record { queued = false; taken = refl; known = refl; reach = λ s. refl; refuses = λ s h. rw (le-leb 4294966000 s.clock.generation h) }
-
 -- what a send has past its entry
 pub ready_to_send : {p : Parts} {n d m q : ℕ} {wrong : Bool} → Admitted (opened_of p) n d m q wrong true → Ready p n m
-ready_to_send a = record { checked = record { is = sym a.sound; full = a.full }; list = a.list; outbound = a.outbound; low = a.low refl }
+ready_to_send a = record { checked = checked a; list = a.list; outbound = a.outbound; low = a.low refl }

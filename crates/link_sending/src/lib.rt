@@ -7,37 +7,12 @@ ghost use Rattle.outbox.specs.View.{ExactOutbox};
 ghost use Rattle.session.specs.Promise.{CalledWithOutbound};
 ghost use Rattle.parts.specs.Parts.{parts, outbox_in};
 ghost use Rattle.parts.specs.Driven.{Driven};
-ghost use Rattle.link_sending.specs.Sends.{Ready, Enters, AllocatesIn};
+ghost use Rattle.link_sending.specs.Sends.{Ready, AllocatesIn};
 
 use parts::{Bytes, Halves, LinkAnswer, Words};
 use peer_session::SessionState;
 use rules::Refusal;
 use session::ANY;
-
-// The tests at the entry of a call that sends a message, in their order: of a send, a reject and a command; an ack makes them too.
-pub fn enters(
-    words: &Words,
-    halves: &Halves,
-    bytes: &Bytes,
-    list: usize,
-    outbound: usize,
-) -> Result<(), Refusal>
-    ensures { Enters words.now halves.now bytes.now list outbound result }
-{
-    if list < SessionState::EVENT_WORDS {
-        return Err(Refusal::ShortBuffer);
-    }
-    if outbound < SessionState::OUTBOUND_BYTES {
-        return Err(Refusal::ShortBuffer);
-    }
-    if !link_sound::sound(words, halves, bytes) {
-        return Err(Refusal::BadRecord);
-    }
-    if SessionState::GENERATION_LIMIT <= halves[parts::GENERATION] {
-        return Err(Refusal::GenerationsExhausted);
-    }
-    Ok(())
-}
 
 // `peer_session::allocate`: a message gets the next number and joins the unacked as pending, or is refused.
 pub fn allocate(

@@ -8,16 +8,19 @@ use lib.Ieee.{Float}
 use lib.ListN.{length}
 use Rattle.rules.specs.declared.Answer.TheVariants.{Done, Refused}
 use Rattle.rules.specs.declared.Refusal.{Refusal}
-use Rattle.rules.specs.declared.Refusal.TheVariants.{ShortBuffer, BadRecord, GenerationsExhausted, AlreadyAccepted, ProposalNotFirst}
+use Rattle.rules.specs.declared.Refusal.TheVariants.{AlreadyAccepted, ProposalNotFirst}
 use Rattle.rules.specs.declared.Setup.TheVariants.{Waiting}
 use Rattle.rules.specs.declared.Terms.{Terms}
 use Rattle.rules.specs.Lists.{Bytes}
 use Rattle.rules.specs.Setup.{is_none}
 use Rattle.rules.specs.Calls.{accepts}
+use Rattle.rules.specs.Buffers.{taken_by, short, wrong_code, queue_reach}
 use Rattle.std.specs.Prelude.{Ok, Err}
 use Rattle.peer_session.specs.View.{state_of}
 use Rattle.peer_session.specs.Sound.{sound_of, Checked}
-use Rattle.session.specs.Promise.{CalledWithOutboundAlone}
+use Rattle.session.specs.Promise.{lent, CalledWithOutboundAlone}
+use Rattle.session.specs.Entry.{any_length, Enters}
+use Rattle.session.proofs.Entries.{stops}
 use Rattle.session.proofs.Lengths.{not_taken}
 use Rattle.setup.specs.Steps.{staged}
 use Rattle.setup.proofs.Lending as L
@@ -37,62 +40,49 @@ use Rattle.link_setup.proofs.Joins.{joins, joins_not, joined_waiting}
 
 -- ---- the tests
 
-module _ (p : Parts) (terms : Terms) {n : ℕ} where
-  pub short-outbound : n < 65536 → NotAccepting p terms n ShortBuffer
-  short-outbound h = record { call = λ l o b d q eo lq r t. L.outbound-short accepting (opened_of p) l d o q refl t (omega (arith, eo)) }
+-- a refusal at its entry
+pub stopped_at_entry : {p : Parts} {terms : Terms} {n : ℕ} {x : Refusal} → Enters (opened_of p) any_length any_length n any_length false true (Err x) → NotAccepting p terms n x
+unfolding taken_by short wrong_code queue_reach
+stopped_at_entry {p} {terms} en =
+    record {
+      call = λ l o b d q eo lq r t.
+          stops (accepts terms b) (opened_of p) (lent l d o q) (rw (sym eo) at en) refl t refl refl (λ h. h) (λ h. lq) (λ e k s h. (accept_spent terms b s h, refl));
+    }
 
-  module _ (ln : 65536 ≤ n) where
-    pub unsound : sound_of (opened_of p) ≡ false → NotAccepting p terms n BadRecord
-    unsound e = record { call = λ l o b d q eo lq r t. L.unsound accepting (opened_of p) l d o q not_taken (λ x. omega (arith, eo)) not_taken t e }
+module _ (p : Parts) (terms : Terms) {n : ℕ} (ln : 65536 ≤ n) (k : Checked (opened_of p) true) (low : (opened_of p).clock.generation < 4294966000) where
+  again : is_none (opened_of p).stage.setup ≡ false → NotAccepting p terms n AlreadyAccepted
+  again e =
+      record {
+        call = λ l o b d q eo lq r t.
+            L.refused accepting (opened_of p) l d o q not_taken (λ x. omega (arith, eo)) not_taken (sym k.is) k.full (omega (arith, eo)) lq t
+            (accept-again terms b (state_of (opened_of p) o q) low e);
+      }
 
-    module _ (k : Checked (opened_of p) true) where
-      pub spent : 4294966000 ≤ (opened_of p).clock.generation → NotAccepting p terms n GenerationsExhausted
-      spent h =
-          record {
-            call = λ l o b d q eo lq r t.
-                L.refused accepting (opened_of p) l d o q not_taken (λ x. omega (arith, eo)) not_taken (sym k.is) k.full (omega (arith, eo)) lq t
-                (accept_spent terms b (state_of (opened_of p) o q) h);
-          }
-
-      module _ (low : (opened_of p).clock.generation < 4294966000) where
-        again : is_none (opened_of p).stage.setup ≡ false → NotAccepting p terms n AlreadyAccepted
-        again e =
-            record {
-              call = λ l o b d q eo lq r t.
-                  L.refused accepting (opened_of p) l d o q not_taken (λ x. omega (arith, eo)) not_taken (sym k.is) k.full (omega (arith, eo)) lq t
-                  (accept-again terms b (state_of (opened_of p) o q) low e);
-            }
-
-        late : is_none (opened_of p).stage.setup ≡ true → terms.initiator ≡ true → ((opened_of p).outbox.next ≡ 1 → ⊥) → NotAccepting p terms n ProposalNotFirst
-        late e i m =
-            record {
-              call = λ l o b d q eo lq r t.
-                  L.refused accepting (opened_of p) l d o q not_taken (λ x. omega (arith, eo)) not_taken (sym k.is) k.full (omega (arith, eo)) lq t
-                  (accept_late terms b (state_of (opened_of p) o q) low e i m);
-            }
+  late : is_none (opened_of p).stage.setup ≡ true → terms.initiator ≡ true → ((opened_of p).outbox.next ≡ 1 → ⊥) → NotAccepting p terms n ProposalNotFirst
+  late e i m =
+      record {
+        call = λ l o b d q eo lq r t.
+            L.refused accepting (opened_of p) l d o q not_taken (λ x. omega (arith, eo)) not_taken (sym k.is) k.full (omega (arith, eo)) lq t
+            (accept_late terms b (state_of (opened_of p) o q) low e i m);
+      }
 
 -- by the numbers of the parts
-module _ (w h b : List ℕ) (t : Float) (terms : Terms) {n : ℕ} (ln : 65536 ≤ n) (k : Checked (opened_of (parts w h b t)) true) where
-  pub at_limit : 4294966000 ≤ at h 768 → NotAccepting (parts w h b t) terms n GenerationsExhausted
+module _ (w h b : List ℕ) (t : Float) (terms : Terms) {n : ℕ} (ln : 65536 ≤ n) (k : Checked (opened_of (parts w h b t)) true) (low : at h 768 < 4294966000) where
+  pub set_up : (at b 769 ≡ 0 → ⊥) → NotAccepting (parts w h b t) terms n AlreadyAccepted
   unfolding opened_of
-  at_limit e = spent (parts w h b t) terms ln k e
+  set_up e = again (parts w h b t) terms ln k low (not_fresh (codes_in h b) (usable w h b t k).codes e)
 
-  module _ (low : at h 768 < 4294966000) where
-    pub set_up : (at b 769 ≡ 0 → ⊥) → NotAccepting (parts w h b t) terms n AlreadyAccepted
+  module _ (new : at b 769 ≡ 0) where
+    is-new : is_none (stage_of (codes_in h b)).setup ≡ true
+    is-new = ap is_none (is-fresh (codes_in h b) (usable w h b t k).codes new)
+
+    pub not_first : terms.initiator ≡ true → (at w 0 ≡ 1 → ⊥) → NotAccepting (parts w h b t) terms n ProposalNotFirst
     unfolding opened_of
-    set_up e = again (parts w h b t) terms ln k low (not_fresh (codes_in h b) (usable w h b t k).codes e)
+    not_first i m = late (parts w h b t) terms ln k low is-new i m
 
-    module _ (new : at b 769 ≡ 0) where
-      is-new : is_none (stage_of (codes_in h b)).setup ≡ true
-      is-new = ap is_none (is-fresh (codes_in h b) (usable w h b t k).codes new)
-
-      pub not_first : terms.initiator ≡ true → (at w 0 ≡ 1 → ⊥) → NotAccepting (parts w h b t) terms n ProposalNotFirst
-      unfolding opened_of
-      not_first i m = late (parts w h b t) terms ln k low is-new i m
-
-      pub may_accept : (terms.initiator ≡ true → at w 0 ≡ 1) → Accepting (parts w h b t) terms n
-      unfolding opened_of
-      may_accept f = record { checked = k; outbound = ln; low = low; new = is-new; first = f }
+    pub may_accept : (terms.initiator ≡ true → at w 0 ≡ 1) → Accepting (parts w h b t) terms n
+    unfolding opened_of
+    may_accept f = record { checked = k; outbound = ln; low = low; new = is-new; first = f }
 
 -- what they refuse
 pub turned : (w h b : List ℕ) (t : Float) (terms : Terms) (o body : Bytes) {x : Refusal} → AcceptEnters terms w h b (length o) (Err x) → {y : LinkAnswer} → y ≡ answer_of (Refused x) 0

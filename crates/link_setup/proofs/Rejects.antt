@@ -25,16 +25,10 @@ use Rattle.parts.specs.Codes.{answer_of}
 use Rattle.parts.specs.Parts.{Parts, parts, at, clock_in, reject_in, opened_of}
 use Rattle.parts.specs.Driven.{Driven}
 use Rattle.parts.proofs.Drives.{changes, refuses}
-use Rattle.link_sending.specs.Sends.{Ready, Sending, AllocatesIn}
+use Rattle.link_sending.specs.Sends.{Ready, AllocatesIn}
 use Rattle.link_sending.proofs.Sends.{raised, clock-raised}
 use Rattle.link_setup.proofs.Stages.{long-words, long-bytes}
 use Rattle.link_setup.proofs.Joins.{joins, joins_not, joined_under}
-
--- its tests are a send's
-pub a-reject : Sending rejects
-a-reject = record { queued = false; taken = rejects_plain.taken; known = rejects_plain.known; reach = rejects_plain.reach; refuses = reject_spent }
-
--- ---- past them
 
 -- the reject body lies within its array
 pub body-within : (w h b : List ℕ) (t : Float) {n : ℕ} (o : Bytes) → Ready (parts w h b t) n (length o) → (j : RejectBody) → j ≡ reject_in w b → j.len ≤ length j.bytes

@@ -17,7 +17,8 @@ use Rattle.rules.specs.Answers.{flag_value}
 use Rattle.rules.specs.Setup.{is_none}
 use Rattle.rules.specs.Receiving.{mode_of}
 use Rattle.peer_session.specs.declared.Stage.{Stage}
-use Rattle.peer_session.specs.Sound.{Full}
+use Rattle.peer_session.specs.declared.SessionState.{SessionState}
+use Rattle.peer_session.specs.Sound.{Full, Checked}
 use Rattle.setup.specs.Steps.{staged}
 use Rattle.parts.specs.declared.StageCodes.{StageCodes}
 use Rattle.parts.specs.Codes.{good_codes, good_stage, plain_terms, stage_of}
@@ -202,3 +203,7 @@ module _ (w h b : List ℕ) (t : Float) (full : Full (opened_of (parts w h b t))
 -- a test has one answer
 pub never : {A : Type 0} {x : Bool} → x ≡ true → x ≡ false → A
 never p q = absurd (true≢false (sym p ∙ q))
+
+-- what a test of soundness found, by its answer
+pub found-sound : {s : SessionState} {r : Bool} → Checked s r → r ≡ true → Checked s true
+found-sound k e = record { is = sym e ∙ k.is; full = k.full }

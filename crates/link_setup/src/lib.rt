@@ -10,8 +10,8 @@ ghost use Rattle.link_sending.specs.Sends.{Ready};
 ghost use Rattle.link_setup.specs.Steps.{Stages, Accepting, AcceptEnters};
 
 use parts::{Bytes, Halves, LinkAnswer, SetupCode, Words};
-use peer_session::SessionState;
 use rules::{Disposition, Refusal, Terms};
+use session::ANY;
 
 // ---- the stage
 
@@ -57,7 +57,7 @@ pub fn prepare_channel(
 
 // ---- accept
 
-// The tests of an accept, in their order. They aren't a send's: an accept takes no list to test.
+// The tests of an accept, in their order: its entry's, and its own.
 fn accept_enters(
     words: &Words,
     halves: &Halves,
@@ -67,15 +67,9 @@ fn accept_enters(
 ) -> Result<(), Refusal>
     ensures { AcceptEnters terms words.now halves.now bytes.now outbound result }
 {
-    if outbound < SessionState::OUTBOUND_BYTES {
-        return Err(Refusal::ShortBuffer);
-    }
-    if !link_sound::sound(words, halves, bytes) {
-        return Err(Refusal::BadRecord);
-    }
-    if SessionState::GENERATION_LIMIT <= halves[parts::GENERATION] {
-        return Err(Refusal::GenerationsExhausted);
-    }
+    link_entry::enters(
+        words, halves, bytes, ANY, ANY, outbound, ANY, false, true,
+    )?;
     if bytes[parts::SETUP] != SetupCode::None as u8 {
         return Err(Refusal::AlreadyAccepted);
     }
@@ -203,7 +197,18 @@ pub fn reject(
 ) -> LinkAnswer
     ensures { Driven (parts words.old halves.old bytes.old clock.now) (parts words.new halves.new bytes.new clock.now) result (λ s y. CalledWithOutbound rejects s list.old outbound.old y list.new outbound.new) }
 {
-    match link_sending::enters(words, halves, bytes, list.len(), outbound.len()) {
+    let entered = link_entry::enters(
+        words,
+        halves,
+        bytes,
+        list.len(),
+        ANY,
+        outbound.len(),
+        ANY,
+        false,
+        true,
+    );
+    match entered {
         Ok(()) => send_reject(words, halves, bytes, clock, list, outbound),
         Err(x) => link_codes::refusal(x),
     }

@@ -1,6 +1,6 @@
 use native.Mathlib.Omega.{arith}
 use mathlib.Core.Path.{sym, ◌∙◌}
-use Rattle.link_sending.proofs.Sends.{found-sound}
+use Rattle.link_setup.proofs.Stages.{found-sound}
 use Rattle.link_setup.proofs.Channels.{prepare_unsound, by_none, by_waiting, by_started, by_retired}
 use Rattle.link_setup.proofs.prepare_channel.Goals as goal
 
