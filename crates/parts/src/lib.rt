@@ -47,8 +47,9 @@ pub const WAITING_NUMBERS: usize = 272;
 
 pub const RETRY_NUMBERS: usize = 784;
 
-// The parts stay apart, and are no fields of a struct: C lends them apart, and which of them a function may change stands in its parameters' types, where a
-// struct of `&mut` needs a clause for each field in each function.
+// The parts stay apart, and are no fields of a struct: C lends them apart, and which of them a function may change stands in its parameters' types. A
+// struct of `&mut` was tried: each function that gets one has to promise of each field that its reference stays, or the call that lends them cannot say
+// what they hold after it.
 pub type Words = [u64; 1296];
 
 // ---- halves: of each unacked message its number and its length, of each queued frame its length
