@@ -1,3 +1,2 @@
--- The laws of the tests: `Entry` those at the entry of a call; `Checks` the verdict on data.
-pub mod Entry
+-- The laws of the checks: the verdict on data.
 pub mod Checks

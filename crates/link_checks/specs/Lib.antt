@@ -1,3 +1,2 @@
--- What the contracts of the tests cite: `Entry` those at the entry of a call, `Checks` those of data past it.
-pub mod Entry
+-- What the contracts of the checks of data cite.
 pub mod Checks

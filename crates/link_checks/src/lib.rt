@@ -1,55 +1,12 @@
-// What is tested before anything is changed, on the parts of a session: at the entry of a call that takes all four buffers, and of data past it.
+// What is tested of data past its entry, on the parts of a session, before anything is changed.
 #![tactic(auto)]
 
-ghost use Rattle.link_checks.specs.Entry.{Enters};
 ghost use Rattle.link_checks.specs.Checks.{Countable, Filled, Judged};
 
-use parts::{Bytes, Halves, Words};
+use parts::Words;
 use peer_session::SessionState;
 use receiving::Verdict;
 use rules::Refusal;
-
-// ---- the tests at the entry of a call that takes all four buffers
-
-// wrong: a code outside its list. Calls that take fewer buffers have tests of their own: one function for all of them, with the buffers as arguments, was
-// tried, and made some calls 7 to 15 % slower.
-pub fn enters(
-    words: &Words,
-    halves: &Halves,
-    bytes: &Bytes,
-    list: usize,
-    delivery: usize,
-    outbound: usize,
-    queue: usize,
-    wrong: bool,
-) -> Result<(), Refusal>
-    ensures { Enters words.now halves.now bytes.now wrong list delivery outbound queue result }
-{
-    if list < SessionState::EVENT_WORDS {
-        return Err(Refusal::ShortBuffer);
-    }
-    if delivery < SessionState::DELIVERY_BYTES {
-        return Err(Refusal::ShortBuffer);
-    }
-    if outbound < SessionState::OUTBOUND_BYTES {
-        return Err(Refusal::ShortBuffer);
-    }
-    if queue < SessionState::QUEUE_BYTES {
-        return Err(Refusal::ShortBuffer);
-    }
-    if wrong {
-        return Err(Refusal::UnknownCode);
-    }
-    if !link_sound::sound(words, halves, bytes) {
-        return Err(Refusal::BadRecord);
-    }
-    if SessionState::GENERATION_LIMIT <= halves[parts::GENERATION] {
-        return Err(Refusal::GenerationsExhausted);
-    }
-    Ok(())
-}
-
-// ---- checks
 
 // 26: the acks that wait and the frames in the queue are 512 together, and the number is in neither, nor answered by code 10. One test a line, as the paper.
 fn acks_full(words: &Words, number: u64) -> bool

@@ -1,5 +1,5 @@
 -- The two calls of a commit on the parts of a session, test by test. Assumes nothing.
-use Prim.Native.Nat.{ℕ, ◌+◌, ◌-◌, ◌≤◌, ◌<◌}
+use Prim.Native.Nat.{ℕ, ◌+◌, ◌-◌, ◌≤◌}
 use mathlib.Core.Path.{◌≡◌, refl, ap, ◌∙◌, subst}
 use mathlib.Core.Bool.{Bool, true, false}
 use mathlib.Core.List.{List}
@@ -9,10 +9,8 @@ use lib.ListN.{length, set, length-set, length-take, length-drop}
 use Rattle.rules.specs.declared.Answer.TheVariants.{Done, Prepared, Refused}
 use Rattle.rules.specs.declared.Clock.{Clock}
 use Rattle.rules.specs.declared.PreparedCommit.{PreparedCommit}
-use Rattle.rules.specs.declared.Refusal.{Refusal}
-use Rattle.rules.specs.declared.Refusal.TheVariants.{ShortBuffer, BadRecord, CommitNumber}
+use Rattle.rules.specs.declared.Refusal.TheVariants.{BadRecord}
 use Rattle.rules.specs.Calls.{prepares, completes}
-use Rattle.std.specs.Prelude.{Result, Err}
 use Rattle.events.specs.Written.{Listed}
 use Rattle.outbox.specs.Sound.{sound_outbox_of}
 use Rattle.outbox.proofs.View.{sound_facts}
@@ -25,36 +23,15 @@ use Rattle.commits.specs.Releases.{Persists, ReleasesBy, notices}
 use Rattle.commits.proofs.Completes as C
 use Rattle.parts.specs.declared.LinkAnswer.{LinkAnswer}
 use Rattle.parts.specs.Codes.{answer_of}
-use Rattle.parts.specs.Parts.{Parts, parts, at, section, outbox_in, clock_in, opened_of}
+use Rattle.parts.specs.Parts.{parts, at, section, outbox_in, clock_in, opened_of}
 use Rattle.parts.specs.Driven.{Driven, DrivenAnswer}
 use Rattle.parts.proofs.Fields.{agree_set, outbox-same}
 use Rattle.parts.proofs.After.{agree_all}
-use Rattle.parts.proofs.Drives.{changes, refuses, answers}
-use Rattle.link_commits.specs.Completes.{Ready, Turns, Found, MayReleaseIn, ReleasesIn}
+use Rattle.parts.proofs.Drives.{changes, answers}
+use Rattle.link_commits.specs.Completes.{Ready, MayReleaseIn, ReleasesIn}
 use Rattle.link_commits.proofs.Releases.{persisted}
 
--- ---- the tests
-
-module _ (p : Parts) {n : ℕ} (c : PreparedCommit) where
-  pub short-list : n < 4096 → Turns p n c ShortBuffer
-  short-list h = record { call = λ b l e r t. C.list-short c b (opened_of p) l t (omega (arith, e)) }
-
-  module _ (long : 4096 ≤ n) where
-    pub unsound : sound_of (opened_of p) ≡ false → Turns p n c BadRecord
-    unsound h = record { call = λ b l e r t. C.unsound c b (opened_of p) l (omega (arith, e)) t h }
-
-    module _ (sound : sound_of (opened_of p) ≡ true) (full : Full (opened_of p)) where
-      pub outbound-past : 18446744073709551614 < c.outbound → Turns p n c CommitNumber
-      outbound-past h = record { call = λ b l e r t. C.outbound_refused c b (opened_of p) l (omega (arith, e)) sound full t h }
-
-      pub remote-past : c.outbound ≤ 18446744073709551614 → 18446744073709551614 < c.remote → Turns p n c CommitNumber
-      remote-past ho h = record { call = λ b l e r t. C.remote_refused c b (opened_of p) l (omega (arith, e)) sound full ho t h }
-
-pub turned : (p : Parts) (l : List ℕ) (c : PreparedCommit) (b : Bool) (r : Result (Unit {0}) Refusal) (x : Refusal) → r ≡ Err x → Found p (length l) c r
-    → {y : LinkAnswer} → y ≡ answer_of (Refused x) 0 → Driven p p y (λ s r. CalledWithList (completes c b) s l r l)
-turned p l c b r x e f a = refuses p x a (λ r u. (subst (λ (r : Result (Unit {0}) Refusal). Found p (length l) c r) e f).call b l refl r u)
-
--- ---- past them
+-- ---- complete, past its tests
 
 -- arrays of a whole session are long enough
 long-section : (from n : ℕ) (l : List ℕ) → 1 ≤ n → length (section from n l) ≡ n → from + n ≤ length l

@@ -1,17 +1,13 @@
 -- The steps of a completed commit on the parts of a session. Assumes nothing.
-use Rattle.std.specs.Prelude.{ℕ, ◌≤◌, ◌≡◌, Bool, true, List, Float, length, Result, Ok, Err}
+use Rattle.std.specs.Prelude.{ℕ, ◌≤◌, ◌≡◌, true, List, Float, length}
 use Rattle.rules.specs.declared.PreparedCommit.{PreparedCommit}
-use Rattle.rules.specs.declared.Refusal.{Refusal}
-use Rattle.rules.specs.Calls.{completes}
 use Rattle.outbox.specs.Sound.{sound_outbox_of}
 use Rattle.peer_session.specs.Sound.{sound_of, Full}
-use Rattle.session.specs.declared.Returned.{Returned}
-use Rattle.session.specs.Promise.{CalledWithList, Turned}
 use Rattle.commits.specs.Releases.{ReleasesBy}
 use Rattle.numbers.specs.Seats.{ExactNumbers}
 use Rattle.parts.specs.Parts.{Parts, parts, at, outbox_in, waiting_in, opened_of}
 
--- ---- the tests in their order: the list's length, the session, the record's numbers
+-- ---- past the tests: the list's length, the session, the record's numbers
 
 pub record Ready (p : Parts) (n : ℕ) (c : PreparedCommit) : Type 0 where
   pub sound : sound_of (opened_of p) ≡ true
@@ -20,16 +16,6 @@ pub record Ready (p : Parts) (n : ℕ) (c : PreparedCommit) : Type 0 where
   pub list : 4096 ≤ n
   pub outbound : c.outbound ≤ 18446744073709551614
   pub remote : c.remote ≤ 18446744073709551614
-
-pub record Turns (p : Parts) (n : ℕ) (c : PreparedCommit) (x : Refusal) : Type 0 where
-  pub call : (persisted : Bool) (l : List ℕ) → length l ≡ n → (r : Returned) → Turned (opened_of p) x r → CalledWithList (completes c persisted) (opened_of p) l r l
-
-abbrev pub Found : Parts → ℕ → PreparedCommit → Result (Unit {0}) Refusal → Type 0
-Found p n c (Ok tt) = Ready p n c
-Found p n c (Err x) = Turns p n c x
-
-abbrev pub Enters : List ℕ → List ℕ → List ℕ → ℕ → PreparedCommit → Result (Unit {0}) Refusal → Type 0
-Enters w h b n c r = (t : Float) → Found (parts w h b t) n c r
 
 -- ---- messages and acks go out
 

@@ -6,11 +6,12 @@ ghost use Rattle.rules.specs.Calls.{prepares, completes};
 ghost use Rattle.session.specs.Promise.{Answered, CalledWithList};
 ghost use Rattle.parts.specs.Parts.{parts};
 ghost use Rattle.parts.specs.Driven.{Driven, DrivenAnswer};
-ghost use Rattle.link_commits.specs.Completes.{Ready, Enters, MayReleaseIn, ReleasesIn};
+ghost use Rattle.link_commits.specs.Completes.{Ready, MayReleaseIn, ReleasesIn};
 
 use parts::{Bytes, Halves, LinkAnswer, Words};
 use peer_session::SessionState;
 use rules::{Answer, PreparedCommit, Refusal};
+use session::ANY;
 
 // What a commit is to capture: the generation, and the numbers given and delivered last.
 pub fn prepare(words: &Words, halves: &Halves, bytes: &Bytes, clock: &f64) -> LinkAnswer
@@ -28,31 +29,6 @@ pub fn prepare(words: &Words, halves: &Halves, bytes: &Bytes, clock: &f64) -> Li
 }
 
 // ---- completing
-
-// The tests of a completed commit, in their order.
-fn enters(
-    words: &Words,
-    halves: &Halves,
-    bytes: &Bytes,
-    list: usize,
-    commit: PreparedCommit,
-) -> Result<(), Refusal>
-    ensures { Enters words.now halves.now bytes.now list commit result }
-{
-    if list < SessionState::EVENT_WORDS {
-        return Err(Refusal::ShortBuffer);
-    }
-    if !link_sound::sound(words, halves, bytes) {
-        return Err(Refusal::BadRecord);
-    }
-    if SessionState::LAST_REMOTE < commit.outbound {
-        return Err(Refusal::CommitNumber);
-    }
-    if SessionState::LAST_REMOTE < commit.remote {
-        return Err(Refusal::CommitNumber);
-    }
-    Ok(())
-}
 
 // Messages and acks up to the record's numbers go out, messages first; a generation that was released already releases nothing.
 fn release_by(
@@ -115,9 +91,15 @@ pub fn complete(
 ) -> LinkAnswer
     ensures { Driven (parts words.old halves.old bytes.old clock.now) (parts words.new halves.new bytes.new clock.now) result (λ s y. CalledWithList (completes commit persisted) s list.old y list.new) }
 {
-    let stop = enters(words, halves, bytes, list.len(), commit);
-    match stop {
-        Err(x) => link_codes::refusal(x),
-        Ok(()) => finish(words, halves, bytes, clock, list, commit, persisted),
+    let len = list.len();
+    if let Err(x) = link_entry::enters(words, halves, bytes, len, ANY, ANY, ANY, false, false) {
+        return link_codes::refusal(x);
     }
+    if SessionState::LAST_REMOTE < commit.outbound {
+        return link_codes::refusal(Refusal::CommitNumber);
+    }
+    if SessionState::LAST_REMOTE < commit.remote {
+        return link_codes::refusal(Refusal::CommitNumber);
+    }
+    finish(words, halves, bytes, clock, list, commit, persisted)
 }

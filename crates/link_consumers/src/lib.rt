@@ -55,7 +55,7 @@ pub fn consumer_ready(
 ) -> LinkAnswer
     ensures { Driven (parts words.old halves.old bytes.old clock.old) (parts words.new halves.new bytes.new clock.new) result (λ s y. Called (is_ready status mode) s (lent list.old delivery.old outbound.old queue.old) y (lent list.new delivery.new outbound.new queue.new)) }
 {
-    let stop = link_checks::enters(
+    if let Err(x) = link_entry::enters(
         words,
         halves,
         bytes,
@@ -64,11 +64,11 @@ pub fn consumer_ready(
         outbound.len(),
         queue.len(),
         mode > ReceiveMode::Retiring as u64,
-    );
-    match stop {
-        Err(x) => link_codes::refusal(x),
-        Ok(()) => ready(
-            words, halves, bytes, clock, list, delivery, outbound, queue, status, mode as u8,
-        ),
+        true,
+    ) {
+        return link_codes::refusal(x);
     }
+    ready(
+        words, halves, bytes, clock, list, delivery, outbound, queue, status, mode as u8,
+    )
 }

@@ -1,13 +1,11 @@
 -- A fetch on the parts of a session, answer by answer. Assumes nothing.
 use Rattle.std.specs.Prelude.{Option}
-use Prim.Native.Nat.{ℕ, ◌≤◌, ◌<◌}
+use Prim.Native.Nat.{ℕ, ◌≤◌}
 use mathlib.Core.Path.{◌≡◌, refl}
-use mathlib.Core.Bool.{true, false}
+use mathlib.Core.Bool.{true}
 use mathlib.Core.List.{List}
 use lib.Ieee.{Float}
 use lib.ListN.{length}
-use Rattle.rules.specs.declared.Answer.TheVariants.{Refused}
-use Rattle.rules.specs.declared.Refusal.TheVariants.{ShortBuffer, BadRecord}
 use Rattle.rules.specs.Lists.{Bytes}
 use Rattle.rules.specs.Calls.{fetches}
 use Rattle.outbox.specs.declared.Place.{Place}
@@ -30,18 +28,9 @@ pub may_locate : (w h b : List ℕ) (t : Float) → sound_of (opened_of (parts w
 unfolding opened_of
 may_locate w h b t s full = bounded_sound w h b (View.parts (opened_of (parts w h b t)) s full).outbox
 
-module _ (w h b : List ℕ) (t : Float) (o : Bytes) (number : ℕ) where
-  pub find_short : length o < 65536 → {y : LinkAnswer} → y ≡ answer_of (Refused ShortBuffer) 0
-      → DrivenAnswer (parts w h b t) y (λ s a. AnsweredWithOutbound (fetches number) s o a)
-  find_short k e = answers (parts w h b t) (Refused ShortBuffer) e (F.find_short number (opened_of (parts w h b t)) o k)
-
-  module _ (lo : 65536 ≤ length o) where
-    pub find_unsound : sound_of (opened_of (parts w h b t)) ≡ false → {y : LinkAnswer} → y ≡ answer_of (Refused BadRecord) 0
-        → DrivenAnswer (parts w h b t) y (λ s a. AnsweredWithOutbound (fetches number) s o a)
-    find_unsound k e = answers (parts w h b t) (Refused BadRecord) e (F.find_unsound number (opened_of (parts w h b t)) o lo k)
-
-    pub find_sound : sound_of (opened_of (parts w h b t)) ≡ true → Full (opened_of (parts w h b t)) → (p : Option Place) → p ≡ place_u number 0 (used_u (outbox_in w h b))
-        → {y : LinkAnswer} → y ≡ answer_of (Records.answer_of p) 0 → DrivenAnswer (parts w h b t) y (λ s a. AnsweredWithOutbound (fetches number) s o a)
-    unfolding opened_of
-    find_sound k full p is e =
-        answers (parts w h b t) (Records.answer_of p) e (F.find_sound number (opened_of (parts w h b t)) o lo k full {p = p} is refl)
+module _ (w h b : List ℕ) (t : Float) (o : Bytes) (number : ℕ) (lo : 65536 ≤ length o) where
+  pub find_sound : sound_of (opened_of (parts w h b t)) ≡ true → Full (opened_of (parts w h b t)) → (p : Option Place) → p ≡ place_u number 0 (used_u (outbox_in w h b))
+      → {y : LinkAnswer} → y ≡ answer_of (Records.answer_of p) 0 → DrivenAnswer (parts w h b t) y (λ s a. AnsweredWithOutbound (fetches number) s o a)
+  unfolding opened_of
+  find_sound k full p is e =
+      answers (parts w h b t) (Records.answer_of p) e (F.find_sound number (opened_of (parts w h b t)) o lo k full {p = p} is refl)

@@ -11,8 +11,8 @@ ghost use Rattle.parts.specs.Driven.{DrivenAnswer};
 
 use outbox::Place;
 use parts::{Bytes, Halves, LinkAnswer, Words};
-use peer_session::SessionState;
-use rules::{Answer, Refusal};
+use rules::Answer;
+use session::ANY;
 
 fn place_answer(found: Option<Place>) -> LinkAnswer
     ensures { result ≡ answer_of (Records.answer_of found) 0 }
@@ -40,11 +40,9 @@ pub fn find(
 ) -> LinkAnswer
     ensures { DrivenAnswer (parts words.now halves.now bytes.now clock.now) result (λ s a. AnsweredWithOutbound (fetches number) s outbound.now a) }
 {
-    if outbound.len() < SessionState::OUTBOUND_BYTES {
-        return link_codes::refusal(Refusal::ShortBuffer);
-    }
-    if !link_sound::sound(words, halves, bytes) {
-        return link_codes::refusal(Refusal::BadRecord);
+    let len = outbound.len();
+    if let Err(x) = link_entry::enters(words, halves, bytes, ANY, ANY, len, ANY, false, false) {
+        return link_codes::refusal(x);
     }
     place_answer(link_outbox::locate(words, halves, number))
 }

@@ -1,20 +1,16 @@
 -- Data in any mode, driven. Assumes nothing.
 use mathlib.Core.Path.{◌≡◌, refl, sym}
-use mathlib.Core.Bool.{true, false}
+use mathlib.Core.Bool.{true}
 use mathlib.Core.List.{List}
-use Prim.Native.Nat.{ℕ, ◌≤◌}
+use Prim.Native.Nat.{ℕ}
 use lib.Ieee.{Float}
 use lib.ListN.{length}
-use lib.Dec.{ltb}
-use borrow.Author.Tests.{ltb-false}
 use Rattle.rules.specs.declared.HostStatus.{HostStatus}
 use Rattle.rules.specs.declared.Refusal.{Refusal}
 use Rattle.rules.specs.declared.Answer.TheVariants.{Flag, Refused}
 use Rattle.rules.specs.Lists.{Bytes}
 use Rattle.rules.specs.State.{Frame}
 use Rattle.rules.specs.Calls.{gets_data}
-use Rattle.rules.specs.Buffers.{wrong_code}
-use Rattle.std.specs.Prelude.{Result, Ok, Err}
 use Rattle.peer_session.specs.Sound as Sounds
 use Rattle.session.specs.Promise.{lent, Called}
 use Rattle.draining.specs.Arrived.{told}
@@ -22,8 +18,7 @@ use Rattle.draining.specs.Ends.{Fails}
 use Rattle.receiving.specs.declared.Verdict.{Verdict}
 use Rattle.receiving.specs.declared.Verdict.TheVariants.{Refuse, Fail, Again, New}
 use Rattle.receiving.specs.Checks.{Acknowledges, Acknowledging, Anew}
-use Rattle.receiving.proofs.Checks.{spent, spent_reach}
-use Rattle.receiving.proofs.Data.{data_takes, check_fits, fail_fits, refused_by, failed_by, again-fits, again_by, new-fits, new_by}
+use Rattle.receiving.proofs.Data.{check_fits, fail_fits, refused_by, failed_by, again-fits, again_by, new-fits, new_by}
 use Rattle.parts.specs.declared.LinkAnswer.{LinkAnswer}
 use Rattle.parts.specs.Codes.{answer_of}
 use Rattle.parts.specs.Parts.{Parts, parts, opened_of}
@@ -34,9 +29,7 @@ use Rattle.link_sound.proofs.Parts.{usable}
 use Rattle.link_draining.specs.declared.Ending.{Ending}
 use Rattle.link_draining.specs.Endings.{ended_of}
 use Rattle.link_draining.specs.Steps.{Failing}
-use Rattle.link_checks.specs.Entry.{Spends, Enters}
 use Rattle.link_checks.specs.Checks.{Countable, Judged}
-use Rattle.link_checks.proofs.Entry.{found_by, arrives}
 use Rattle.link_arrivals.specs.Steps.{Receiving}
 use Rattle.link_receiving.specs.Steps.{Arriving}
 
@@ -84,25 +77,3 @@ module _ (status : HostStatus) (f : Frame) (w h b : List ℕ) (t : Float) (l : L
       received e c =
           changes p pre.arrived.good p' (opened_of p') refl (told (Flag true) r.stop) r.events a
           (new_by status f (opened_of p) l d o q pre.arrived pre.kind (j h b t) e c refl)
-
--- ---- the call
-
-data_code : (status : HostStatus) (f : Frame) → wrong_code (gets_data status f) ≡ ltb 2 f.kind
-unfolding wrong_code
-data_code status f = refl
-
-spends : (status : HostStatus) (f : Frame) → ltb 2 f.kind ≡ false → Spends (gets_data status f)
-spends status f e =
-    let k : f.kind ≤ 2 = ltb-false 2 f.kind e in
-    record { reach = λ s g. spent_reach status f s k g; refuses = λ s g. spent status f s k g }
-
-module _ (status : HostStatus) (f : Frame) (w h b : List ℕ) (t : Float) (l : List ℕ) (d o q : Bytes) {z : Result (Unit {0}) Refusal}
-    (e : Enters w h b (ltb 2 f.kind) (length l) (length d) (length o) (length q) z) where
-  pub stopped : (x : Refusal) → z ≡ Err x → {y : LinkAnswer} → y ≡ answer_of (Refused x) 0
-      → Driven (parts w h b t) (parts w h b t) y (λ s r. Called (gets_data status f) s (lent l d o q) r (lent l d o q))
-  stopped x ez a =
-      refuses (parts w h b t) x a
-      (λ r tu. (found_by l d o q e t (Err x) ez).call (gets_data status f) (data_takes status f) (data_code status f) (spends status f) l d o q refl refl refl refl r tu)
-
-  pub arriving : z ≡ Ok tt → Arriving f w h b t l d o q
-  arriving ez = record { arrived = arrives l d o q e t ez; kind = ltb-false 2 f.kind (found_by l d o q e t (Ok tt) ez).known }

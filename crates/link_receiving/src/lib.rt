@@ -79,7 +79,7 @@ pub fn data(
 ) -> LinkAnswer
     ensures { Driven (parts words.old halves.old bytes.old clock.old) (parts words.new halves.new bytes.new clock.new) result (λ s y. Called (gets_data status (frame_of number kind body.now)) s (lent list.old delivery.old outbound.old queue.old) y (lent list.new delivery.new outbound.new queue.new)) }
 {
-    let stop = link_checks::enters(
+    if let Err(x) = link_entry::enters(
         words,
         halves,
         bytes,
@@ -88,18 +88,16 @@ pub fn data(
         outbound.len(),
         queue.len(),
         kind > BodyKind::Reject as u64,
-    );
-    match stop {
-        Err(x) => link_codes::refusal(x),
-        Ok(()) => {
-            let f = Frame {
-                number,
-                kind: kind as u8,
-                body,
-            };
-            receive(
-                words, halves, bytes, clock, list, delivery, outbound, queue, status, f,
-            )
-        }
+        true,
+    ) {
+        return link_codes::refusal(x);
     }
+    let f = Frame {
+        number,
+        kind: kind as u8,
+        body,
+    };
+    receive(
+        words, halves, bytes, clock, list, delivery, outbound, queue, status, f,
+    )
 }

@@ -1,8 +1,6 @@
 -- A connectivity event on the parts of a session, answer by answer. Assumes nothing.
-use Prim.Native.Nat.{ℕ, ◌+◌, ◌*◌, ◌≤◌, ◌<◌}
-use mathlib.Core.Path.{◌≡◌, refl, subst}
-use mathlib.Core.Logic.{◌⊎◌}
-use Rattle.std.specs.Prelude.{Result, Ok, Err}
+use Prim.Native.Nat.{ℕ, ◌+◌, ◌*◌, ◌≤◌}
+use mathlib.Core.Path.{◌≡◌, refl}
 use Rattle.rules.specs.declared.Connectivity.{Connectivity}
 use Rattle.rules.specs.declared.Connectivity.TheVariants.{Disconnected, Reconnected, PeerUnavailable, Registered, PeerAvailable}
 use Rattle.rules.specs.Codes.{connectivity_number}
@@ -13,40 +11,38 @@ use lib.Ieee.{Float}
 use lib.ListN.{length}
 use lib.Dec.{leb}
 use Rattle.std.proofs.lemmas.Bool.{leb-true, leb-false}
-use Rattle.rules.specs.declared.Answer.TheVariants.{Flag, Refused}
-use Rattle.rules.specs.declared.Refusal.{Refusal}
-use Rattle.rules.specs.declared.Refusal.TheVariants.{ShortBuffer, UnknownCode, BadRecord}
+use Rattle.rules.specs.declared.Answer.TheVariants.{Flag}
 use Rattle.rules.specs.Clock.{held_back}
 use Rattle.rules.specs.Calls.{connects}
 use Rattle.outbox.specs.Sound.{sound_outbox_of}
 use Rattle.outbox.specs.Steps.{Replays}
 use Rattle.outbox.proofs.View.{SoundU, sound_facts}
-use Rattle.peer_session.specs.Sound.{sound_of}
 use Rattle.peer_session.proofs.View as View
 use Rattle.session.specs.Promise.{CalledWithList}
+use Rattle.session.specs.Entry.{Admitted}
 use Rattle.replays.proofs.Connects as C
 use Rattle.parts.specs.declared.LinkAnswer.{LinkAnswer}
 use Rattle.parts.specs.Codes.{answer_of}
 use Rattle.parts.specs.Parts.{Parts, parts, at, outbox_in, opened_of}
 use Rattle.parts.specs.Driven.{Driven}
-use Rattle.parts.proofs.Drives.{leaves, changes, refuses}
-use Rattle.link_replays.specs.Connects.{Ready, Turns, Found}
+use Rattle.parts.proofs.Drives.{leaves, changes}
+use Rattle.link_replays.specs.Connects.{Ready}
 
 -- ---- the code of an event
 
-pub first : {e : ℕ} (event : Connectivity) → e ≡ connectivity_number event → 1 ≤ e
-first Disconnected k = omega (arith, k)
-first Reconnected k = omega (arith, k)
-first PeerUnavailable k = omega (arith, k)
-first Registered k = omega (arith, k)
-first PeerAvailable k = omega (arith, k)
+first : (event : Connectivity) → 1 ≤ connectivity_number event
+first Disconnected = omega arith
+first Reconnected = omega arith
+first PeerUnavailable = omega arith
+first Registered = omega arith
+first PeerAvailable = omega arith
 
-pub last : {e : ℕ} (event : Connectivity) → e ≡ connectivity_number event → e ≤ 5
-last Disconnected k = omega (arith, k)
-last Reconnected k = omega (arith, k)
-last PeerUnavailable k = omega (arith, k)
-last Registered k = omega (arith, k)
-last PeerAvailable k = omega (arith, k)
+last : (event : Connectivity) → connectivity_number event ≤ 5
+last Disconnected = omega arith
+last Reconnected = omega arith
+last PeerUnavailable = omega arith
+last Registered = omega arith
+last PeerAvailable = omega arith
 
 pub early : (event : Connectivity) → leb 4 (connectivity_number event) ≡ false → connectivity_number event ≤ 3
 early event k = omega (arith, leb-false 4 (connectivity_number event) k)
@@ -54,35 +50,10 @@ early event k = omega (arith, leb-false 4 (connectivity_number event) k)
 pub late : (event : Connectivity) → leb 4 (connectivity_number event) ≡ true → 4 ≤ connectivity_number event
 late event k = leb-true 4 (connectivity_number event) k
 
--- ---- the tests
+-- ---- past the tests
 
-module _ (p : Parts) {n e : ℕ} where
-  pub short-list : n < 4096 → Turns p n e ShortBuffer
-  short-list h = record { call = λ time f l el r t. C.list-short e time f (opened_of p) l t (omega (arith, el)) }
-
-  module _ (ln : 4096 ≤ n) where
-    pub bad_code : (e ≡ 0) ⊎ (5 < e) → Turns p n e UnknownCode
-    bad_code h = record { call = λ time f l el r t. C.unknown e time f (opened_of p) l (omega (arith, el)) t (C.bad_code e time f h) }
-
-    pub unsound : 1 ≤ e → e ≤ 5 → sound_of (opened_of p) ≡ false → Turns p n e BadRecord
-    unsound a b s = record { call = λ time f l el r t. C.unsound e time f (opened_of p) l (omega (arith, el)) a b t s }
-
--- what happened, and that the tests passed
-pub found-event : (p : Parts) (n e : ℕ) {r : Result Connectivity Refusal} {event : Connectivity} → Found p n e r → r ≡ Ok event
-    → Ready p n e × (e ≡ connectivity_number event)
-found-event p n e f k = subst (λ (z : Result Connectivity Refusal). Found p n e z) k f
-
-pub ready_for : (p : Parts) (n e : ℕ) (event : Connectivity) {r : Result Connectivity Refusal} → Found p n e r → r ≡ Ok event
-    → Ready p n (connectivity_number event)
-ready_for p n e event f k = let g = found-event p n e f k in subst (λ (m : ℕ). Ready p n m) g.1 g.0
-
--- a refusal by them
-pub turned : (p : Parts) (l : List ℕ) (e : ℕ) (time : Float) (f : Bool) (x : Refusal) {r : Result Connectivity Refusal} → Found p (length l) e r → r ≡ Err x
-    → {y : LinkAnswer} → y ≡ answer_of (Refused x) 0 → Driven p p y (λ s r. CalledWithList (connects e time f) s l r l)
-turned p l e time f x k i a =
-    refuses p x a (λ r t. (subst (λ (z : Result Connectivity Refusal). Found p (length l) e z) i k).call time f l refl r t)
-
--- ---- past them
+pub ready_for : {p : Parts} {n d o q : ℕ} {wrong : Bool} (event : Connectivity) → Admitted (opened_of p) n d o q wrong false → Ready p n (connectivity_number event)
+ready_for event a = record { sound = a.sound; full = a.full; list = a.list; first = first event; last = last event }
 
 module _ (w h b : List ℕ) (t : Float) (l : List ℕ) (e : ℕ) (time : Float) (f : Bool) (ready : Ready (parts w h b t) (length l) e) where
   pub noted : e ≤ 3 → {y : LinkAnswer} → y ≡ answer_of (Flag true) 0 → Driven (parts w h b t) (parts w h b t) y (λ s r. CalledWithList (connects e time f) s l r l)

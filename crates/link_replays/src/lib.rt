@@ -7,31 +7,11 @@ ghost use Rattle.rules.specs.Codes.{connectivity_number};
 ghost use Rattle.session.specs.Promise.{CalledWithList};
 ghost use Rattle.parts.specs.Parts.{parts};
 ghost use Rattle.parts.specs.Driven.{Driven};
-ghost use Rattle.link_replays.specs.Connects.{Ready, Enters};
+ghost use Rattle.link_replays.specs.Connects.{Ready};
 
 use parts::{Bytes, Halves, LinkAnswer, Words};
-use peer_session::SessionState;
-use rules::{Connectivity, Refusal};
-
-// The tests of an event, in their order. Not one with a report's: each reads its own code between list and session, and a generic one would need `TryFrom`'s contract in its own.
-fn enters(
-    words: &Words,
-    halves: &Halves,
-    bytes: &Bytes,
-    list: usize,
-    event: u64,
-) -> Result<Connectivity, Refusal>
-    ensures { Enters words.now halves.now bytes.now list event result }
-{
-    if list < SessionState::EVENT_WORDS {
-        return Err(Refusal::ShortBuffer);
-    }
-    let read = Connectivity::try_from(event)?;
-    if !link_sound::sound(words, halves, bytes) {
-        return Err(Refusal::BadRecord);
-    }
-    Ok(read)
-}
+use rules::Connectivity;
+use session::ANY;
 
 // An event past its tests: one that resends sends anew what is unacked and not pending, unless that was done a moment ago and is not forced.
 fn goes(
@@ -74,8 +54,12 @@ pub fn connectivity(
 ) -> LinkAnswer
     ensures { Driven (parts words.now halves.now bytes.now clock.old) (parts words.now halves.now bytes.now clock.new) result (λ s y. CalledWithList (connects event time force) s list.old y list.new) }
 {
-    match enters(words, halves, bytes, list.len(), event) {
+    let read = Connectivity::try_from(event);
+    let len = list.len();
+    let wrong = read.is_err();
+    let entered = link_entry::enters(words, halves, bytes, len, ANY, ANY, ANY, wrong, false);
+    match entered.and(read) {
         Err(x) => link_codes::refusal(x),
-        Ok(read) => goes(words, halves, bytes, clock, list, read, time, force),
+        Ok(event) => goes(words, halves, bytes, clock, list, event, time, force),
     }
 }

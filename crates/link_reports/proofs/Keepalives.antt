@@ -1,13 +1,12 @@
 -- A keepalive on the parts of a session. Assumes nothing.
-use Prim.Native.Nat.{ℕ, ◌*◌, ◌≤◌, ◌<◌}
+use Prim.Native.Nat.{ℕ, ◌*◌, ◌≤◌}
 use mathlib.Core.Path.{◌≡◌, sym}
-use mathlib.Core.Bool.{true, false}
+use mathlib.Core.Bool.{true}
 use mathlib.Core.List.{List, [], ◌∷◌, map}
 use lib.Ieee.{Float}
 use lib.ListN.{length}
 use Rattle.stores.specs.Placed.{placed}
-use Rattle.rules.specs.declared.Answer.TheVariants.{Flag, Refused}
-use Rattle.rules.specs.declared.Refusal.TheVariants.{ShortBuffer, BadRecord}
+use Rattle.rules.specs.declared.Answer.TheVariants.{Flag}
 use Rattle.rules.specs.Events.{send_ack}
 use Rattle.rules.specs.Calls.{gets_keepalive}
 use Rattle.events.specs.Written.{Listed}
@@ -23,20 +22,12 @@ use Rattle.parts.proofs.Drives.{tells}
 use Rattle.link_numbers.specs.Sets.{Set}
 use Rattle.link_sound.proofs.Parts.{usable}
 
-module _ (w h b : List ℕ) (t : Float) (l : List ℕ) {y : LinkAnswer} where
-  pub told-short : length l < 4096 → y ≡ answer_of (Refused ShortBuffer) 0 → DrivenTold (parts w h b t) y (λ s r. ToldWithList gets_keepalive s l r l)
-  told-short k e = tells (parts w h b t) (Refused ShortBuffer) 0 e (K.told-short (opened_of (parts w h b t)) l k)
-
-  module _ (ll : 4096 ≤ length l) where
-    pub told_unsound : sound_of (opened_of (parts w h b t)) ≡ false → y ≡ answer_of (Refused BadRecord) 0
-        → DrivenTold (parts w h b t) y (λ s r. ToldWithList gets_keepalive s l r l)
-    told_unsound k e = tells (parts w h b t) (Refused BadRecord) 0 e (K.told_unsound (opened_of (parts w h b t)) l ll k)
-
-    pub told : {l₁ l₂ : List ℕ} {n : ℕ} → sound_of (opened_of (parts w h b t)) ≡ true → Full (opened_of (parts w h b t)) → l₁ ≡ placed l (4 * 0) (5 ∷ 0 ∷ 0 ∷ 0 ∷ [])
-        → Listed (map send_ack (in_use (retry_in w))) l₁ 1 l₂ n → y ≡ answer_of (Flag true) n
-        → DrivenTold (parts w h b t) y (λ s r. ToldWithList gets_keepalive s l r l₂)
-    unfolding opened_of
-    told {n = n} sound full k li e = tells (parts w h b t) (Flag true) n e (K.told (opened_of (parts w h b t)) l ll sound full k li)
+module _ (w h b : List ℕ) (t : Float) (l : List ℕ) {y : LinkAnswer} (ll : 4096 ≤ length l) where
+  pub told : {l₁ l₂ : List ℕ} {n : ℕ} → sound_of (opened_of (parts w h b t)) ≡ true → Full (opened_of (parts w h b t)) → l₁ ≡ placed l (4 * 0) (5 ∷ 0 ∷ 0 ∷ 0 ∷ [])
+      → Listed (map send_ack (in_use (retry_in w))) l₁ 1 l₂ n → y ≡ answer_of (Flag true) n
+      → DrivenTold (parts w h b t) y (λ s r. ToldWithList gets_keepalive s l r l₂)
+  unfolding opened_of
+  told {n = n} sound full k li e = tells (parts w h b t) (Flag true) n e (K.told (opened_of (parts w h b t)) l ll sound full k li)
 
 -- what the listing asks of the retries
 module _ (w h b : List ℕ) (t : Float) (sound : sound_of (opened_of (parts w h b t)) ≡ true) (full : Full (opened_of (parts w h b t))) where

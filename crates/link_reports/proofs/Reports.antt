@@ -1,6 +1,6 @@
 -- A report of a send on the parts of a session, by what it leaves of them. Assumes nothing.
-use Prim.Native.Nat.{ℕ, zero, suc, ◌+◌, ◌*◌, ◌≤◌, ◌<◌}
-use mathlib.Core.Path.{◌≡◌, refl, sym, ◌∙◌, subst}
+use Prim.Native.Nat.{ℕ, zero, suc, ◌+◌, ◌*◌, ◌≤◌}
+use mathlib.Core.Path.{◌≡◌, refl, sym, ◌∙◌}
 use mathlib.Core.Bool.{Bool, true, false}
 use mathlib.Core.List.{List, [], ◌∷◌}
 use native.Mathlib.Omega.{arith}
@@ -9,8 +9,7 @@ use lib.ListN.{length, set, length-set}
 use lib.Seq.{get_or-set_same}
 use Rattle.stores.specs.Placed.{placed}
 use Rattle.rules.specs.declared.Answer.TheVariants.{Done, Refused}
-use Rattle.rules.specs.declared.Refusal.{Refusal}
-use Rattle.rules.specs.declared.Refusal.TheVariants.{ShortBuffer, UnknownCode, BadRecord, RetriesFull}
+use Rattle.rules.specs.declared.Refusal.TheVariants.{RetriesFull}
 use Rattle.rules.specs.Lists.{itself, put, kept}
 use Rattle.rules.specs.Acks.{sent, differs_from}
 use Rattle.rules.specs.State.{State}
@@ -18,28 +17,27 @@ use Rattle.rules.specs.Progress.{Outcome}
 use Rattle.rules.specs.Calls.{reports, step}
 use Rattle.rules.specs.declared.FrameKind.{FrameKind}
 use Rattle.rules.specs.Codes.{frame_kind_number}
-use Rattle.std.specs.Prelude.{Result, Ok, Err}
+use Rattle.rules.proofs.Codes.{code-small}
 use Rattle.numbers.specs.Seats.{in_use, Holds}
 use Rattle.outbox.specs.Sound.{sound_outbox_of}
 use Rattle.outbox.specs.Steps.{Flagged}
 use Rattle.peer_session.specs.declared.SessionState.{SessionState}
-use Rattle.peer_session.specs.Sound.{sound_of}
 use Rattle.session.specs.declared.Returned.{Returned}
 use Rattle.session.specs.Promise.{CalledWithList}
-use Rattle.session.proofs.WithList.{list-short, list_wrong, list_unsound, list-answers}
+use Rattle.session.specs.Entry.{Admitted}
+use Rattle.session.proofs.WithList.{list-answers}
 use Rattle.acks.specs.Reports.{Reports, own_frame, full_of, MayRetry}
 use Rattle.acks.proofs.Reports as A
 use Rattle.parts.specs.declared.LinkAnswer.{LinkAnswer}
 use Rattle.parts.specs.Codes.{answer_of}
-use Rattle.parts.specs.Parts.{Parts, parts, at, section, outbox_in, waiting_in, retry_in, clock_in, handoff_in, opened_of}
+use Rattle.parts.specs.Parts.{parts, at, section, outbox_in, waiting_in, retry_in, clock_in, handoff_in, opened_of}
 use Rattle.parts.specs.Frames.{Past, Only}
-use Rattle.parts.specs.Driven.{Driven}
 use Rattle.parts.proofs.Fields.{Agree, agree_past, agree_set, agree_then, agree_only, outbox-same, numbers-same, handoff-same, section-same}
 use Rattle.parts.proofs.After.{Kept, other, after, agree_all}
 use Rattle.parts.proofs.Drives.{leaves, changes, refuses}
 use Rattle.link_numbers.specs.Sets.{Rising}
 use Rattle.link_sound.proofs.Parts.{Usable, usable}
-use Rattle.link_reports.specs.Reports.{Ready, Turns, Found, Enters, Fit, Reported}
+use Rattle.link_reports.specs.Reports.{Ready, Fit, Reported}
 use Rattle.link_sound.proofs.Lengths.{bytes-long}
 
 -- ---- data was accepted: one message is no longer unsent, and perhaps the handoff is sent
@@ -231,38 +229,7 @@ module _ (w h b l : List ℕ) (number : ℕ) where
           refuses (parts w h b t) RetriesFull e
           (λ r u. does t (A.of_ack what number accepted (ready t).code ack false failed) (A.lost_ack number (s t) l (sym f) u))
 
--- ---- the tests
-
-module _ (p : Parts) {n what : ℕ} where
-  pub short : n < 4096 → Turns p n what ShortBuffer
-  short k = record { call = λ l el number accepted r u. list-short (reports what number accepted) (A.list-alone what number accepted) (opened_of p) l u (omega (arith, el)) }
-
-  pub bad_code : 4096 ≤ n → 1 < what → Turns p n what UnknownCode
-  bad_code ln k =
-      record {
-        call = λ l el number accepted r u.
-            list_wrong (reports what number accepted) (A.list-alone what number accepted) (opened_of p) l (omega (arith, el)) u (A.bad_code what number accepted k);
-      }
-
-  pub unsound : 4096 ≤ n → what ≤ 1 → sound_of (opened_of p) ≡ false → Turns p n what BadRecord
-  unsound ln k e =
-      record {
-        call = λ l el number accepted r u.
-            list_unsound (reports what number accepted) (A.list-alone what number accepted) (opened_of p) l (omega (arith, el)) (A.good-code what number accepted k) u e;
-      }
-
--- a refusal by them
-pub turned : (p : Parts) (l : List ℕ) (what number : ℕ) (accepted : Bool) {r : Result FrameKind Refusal} {x : Refusal} → Found p (length l) what r → r ≡ Err x
-    → {y : LinkAnswer} → y ≡ answer_of (Refused x) 0 → Driven p p y (λ s r. CalledWithList (reports what number accepted) s l r l)
-turned p l what number accepted {r} {x} k e f =
-    refuses p x f (λ v u. (subst (λ (z : Result FrameKind Refusal). Found p (length l) what z) e k).call l refl number accepted v u)
-
--- none: what the report is of
-pub found-kind : (p : Parts) (n what : ℕ) {r : Result FrameKind Refusal} {kind : FrameKind} → Found p n what r → r ≡ Ok kind
-    → Ready p n what × (what ≡ frame_kind_number kind)
-found-kind p n what k e = subst (λ (z : Result FrameKind Refusal). Found p n what z) e k
-
-pub fits : (w h b : List ℕ) (n what : ℕ) (kind : FrameKind) {r : Result FrameKind Refusal} → Enters w h b n what r → r ≡ Ok kind
+-- a report past its tests
+pub fits : {w h b : List ℕ} {n d o q : ℕ} {wrong : Bool} (kind : FrameKind) → ((t : Float) → Admitted (opened_of (parts w h b t)) n d o q wrong false)
     → Fit w h b n (frame_kind_number kind)
-fits w h b n what kind k e t =
-    let f = found-kind (parts w h b t) n what (k t) e in subst (λ (m : ℕ). Ready (parts w h b t) n m) f.1 f.0
+fits kind f t = let a = f t in record { sound = a.sound; full = a.full; list = a.list; code = code-small kind refl }

@@ -9,33 +9,14 @@ ghost use Rattle.acks.specs.Reports.{full_of, MayRetry};
 ghost use Rattle.parts.specs.Parts.{parts, retry_in};
 ghost use Rattle.parts.specs.Driven.{Driven, DrivenTold};
 ghost use Rattle.link_numbers.specs.Sets.{Rising, Set};
-ghost use Rattle.link_reports.specs.Reports.{Enters, Fit, Reported, AckReported};
+ghost use Rattle.link_reports.specs.Reports.{Fit, Reported, AckReported};
 
 use parts::{Bytes, Halves, LinkAnswer, Words};
 use peer_session::SessionState;
 use rules::{EventCode, FrameKind, Refusal};
+use session::ANY;
 
 // ---- a report of a send
-
-// The tests of a report, in their order. Not one with an event's, as link_replays says.
-fn report_enters(
-    words: &Words,
-    halves: &Halves,
-    bytes: &Bytes,
-    list: usize,
-    what: u64,
-) -> Result<FrameKind, Refusal>
-    ensures { Enters words.now halves.now bytes.now list what result }
-{
-    if list < SessionState::EVENT_WORDS {
-        return Err(Refusal::ShortBuffer);
-    }
-    let kind = FrameKind::try_from(what)?;
-    if !link_sound::sound(words, halves, bytes) {
-        return Err(Refusal::BadRecord);
-    }
-    Ok(kind)
-}
 
 // Data was accepted. The handoff's own frame requests a commit, whatever the generation.
 fn data_sent(
@@ -121,7 +102,11 @@ pub fn report(
 ) -> LinkAnswer
     ensures { Driven (parts words.old halves.now bytes.old clock.now) (parts words.new halves.now bytes.new clock.now) result (λ s y. CalledWithList (reports what number accepted) s list.old y list.new) }
 {
-    match report_enters(words, halves, bytes, list.len(), what) {
+    let read = FrameKind::try_from(what);
+    let len = list.len();
+    let wrong = read.is_err();
+    let entered = link_entry::enters(words, halves, bytes, len, ANY, ANY, ANY, wrong, false);
+    match entered.and(read) {
         Err(x) => link_codes::refusal(x),
         Ok(kind) => reported(words, halves, bytes, list, kind, number, accepted),
     }
@@ -139,11 +124,9 @@ pub fn keepalive(
 ) -> LinkAnswer
     ensures { DrivenTold (parts words.now halves.now bytes.now clock.now) result (λ s y. ToldWithList gets_keepalive s list.old y list.new) }
 {
-    if list.len() < SessionState::EVENT_WORDS {
-        return link_codes::refusal(Refusal::ShortBuffer);
-    }
-    if !link_sound::sound(words, halves, bytes) {
-        return link_codes::refusal(Refusal::BadRecord);
+    let len = list.len();
+    if let Err(x) = link_entry::enters(words, halves, bytes, len, ANY, ANY, ANY, false, false) {
+        return link_codes::refusal(x);
     }
     events::emit(list, 0, EventCode::Keepalive as u64, 0, 0, 0);
     let n = link_numbers::list_all(words, parts::RETRY_NUMBERS, parts::RETRIES, list, 1);

@@ -1,45 +1,34 @@
 -- A retire on the parts of a session, by what it leaves of them. Assumes nothing.
-use Prim.Native.Nat.{ℕ, ◌+◌, ◌-◌, ◌≤◌, ◌<◌}
+use Prim.Native.Nat.{ℕ, ◌+◌, ◌≤◌, ◌<◌}
 use mathlib.Core.Path.{◌≡◌, refl, sym, ap, ◌∙◌, subst}
 use mathlib.Core.Bool.{Bool, true, false, ◌&&◌}
-use mathlib.Core.List.{List, [], ◌++◌}
-use native.Mathlib.Nat.{zero-add, sub-zero}
+use mathlib.Core.List.{List, []}
 use native.Mathlib.Omega.{arith}
 use lib.Dec.{eqb}
 use lib.Ieee.{Float, nan}
-use lib.ListN.{length, set, drop, replicate, length-set, length-replicate}
+use lib.ListN.{length, set, length-set}
 use lib.Seq.{get_or-set_same, get_or-set_other}
-use Rattle.rules.specs.declared.Answer.TheVariants.{Flag, Refused}
-use Rattle.rules.specs.declared.Refusal.TheVariants.{ShortBuffer, BadRecord}
+use Rattle.rules.specs.declared.Answer.TheVariants.{Flag}
 use Rattle.rules.specs.declared.Setup.TheVariants.{Retired}
-use Rattle.rules.specs.Lists.{Bytes, total, packed}
+use Rattle.rules.specs.Lists.{Bytes}
 use Rattle.rules.specs.Calls.{retires}
-use Rattle.stores.specs.Placed.{placed}
-use Rattle.stores.specs.Packed.{cut}
-use Rattle.stores.proofs.Laws.{length-placed}
-use Rattle.stores.proofs.Packs.{repacked_shrunk}
-use Rattle.outbox.specs.declared.Outbox.{Outbox}
-use Rattle.outbox.specs.View.{end_u, ExactOutbox}
-use Rattle.outbox.proofs.Appends.{discarded}
+use Rattle.outbox.specs.View.{ExactOutbox}
 use Rattle.queue.specs.declared.Queue.{Queue}
-use Rattle.queue.specs.View.{end_q, frames_of, ExactQueue, Repacked}
+use Rattle.queue.specs.View.{ExactQueue, Repacked}
 use Rattle.peer_session.specs.declared.SessionState.{SessionState}
-use Rattle.peer_session.specs.Sound.{sound_of, Checked}
+use Rattle.peer_session.specs.Sound.{Checked}
 use Rattle.session.specs.Promise.{CalledWithStoresAlone}
-use Rattle.session.proofs.Lengths.{not_taken}
+use Rattle.session.specs.Entry.{Admitted}
 use Rattle.setup.specs.Steps.{staged, Retires, Forgets}
-use Rattle.setup.proofs.Lending as L
-use Rattle.setup.proofs.Retires.{retires-is, forgets-is, retiring, retained, forgot, still_exact}
+use Rattle.setup.proofs.Retires.{retires-is, forgets-is, retained, forgot, still_exact}
 use Rattle.parts.specs.declared.LinkAnswer.{LinkAnswer}
 use Rattle.parts.specs.Codes.{answer_of, stage_of}
-use Rattle.parts.specs.Parts.{Parts, parts, at, section, unacked_at, queued_at, outbox_in, queue_in, waiting_in, retry_in, clock_in, codes_in, handoff_in, opened_of}
-use Rattle.parts.specs.Seats.{seats}
+use Rattle.parts.specs.Parts.{parts, at, section, outbox_in, queue_in, waiting_in, retry_in, clock_in, codes_in, handoff_in, opened_of}
 use Rattle.parts.specs.Driven.{Driven}
 use Rattle.parts.proofs.Fields.{Agree, agree_within, agree_past, agree_set, agree_then, outbox-same, queue-same, numbers-same, section-same, policy-same, handoff-same, reject-same, codes_same}
-use Rattle.parts.proofs.Seats.{length-seats}
 use Rattle.parts.proofs.Opened.{opened_as}
 use Rattle.parts.proofs.After.{agree_all}
-use Rattle.parts.proofs.Drives.{changes, refuses}
+use Rattle.parts.proofs.Drives.{changes}
 use Rattle.link_queue.specs.Steps.{Requeued}
 use Rattle.link_draining.specs.Steps.{Discards}
 use Rattle.link_sound.proofs.Parts.{usable}
@@ -171,17 +160,6 @@ module _ (w h b : List ℕ) (o o' : Bytes) (w₁ : List ℕ) (gone : Discards w 
 
 -- ---- the call
 
-module _ (retain : Bool) (p : Parts) (o q : Bytes) where
-  pub short-outbound : length o < 65536 → {y : LinkAnswer} → y ≡ answer_of (Refused ShortBuffer) 0 → Driven p p y (λ s r. CalledWithStoresAlone (retires retain) s o q r o q)
-  short-outbound h f = refuses p ShortBuffer f (λ r u l d. L.outbound-short retiring (opened_of p) l d o q refl u h)
-
-  pub short-queue : length q < 32768 → {y : LinkAnswer} → y ≡ answer_of (Refused ShortBuffer) 0 → Driven p p y (λ s r. CalledWithStoresAlone (retires retain) s o q r o q)
-  short-queue h f = refuses p ShortBuffer f (λ r u l d. L.queue-short retiring (opened_of p) l d o q refl u h)
-
-  module _ (lo : 65536 ≤ length o) (lq : 32768 ≤ length q) where
-    pub unsound : sound_of (opened_of p) ≡ false → {y : LinkAnswer} → y ≡ answer_of (Refused BadRecord) 0 → Driven p p y (λ s r. CalledWithStoresAlone (retires retain) s o q r o q)
-    unsound e f = refuses p BadRecord f (λ r u l d. L.unsound retiring (opened_of p) l d o q not_taken (λ x. lo) (λ x. lq) u e)
-
 module _ (retain : Bool) (w h b : List ℕ) (t : Float) (o q : Bytes) (lo : 65536 ≤ length o) (lq : 32768 ≤ length q) (k : Checked (opened_of (parts w h b t)) true)
     {w₂ h₂ b₂ : List ℕ} {q' : Bytes} (a : RetiresIn w h b q w₂ h₂ b₂ q') where
   disposition_in : at b 768 ≡ (opened_of (parts w h b t)).stage.disposition
@@ -207,3 +185,7 @@ module _ (retain : Bool) (w h b : List ℕ) (t : Float) (o q : Bytes) (lo : 6553
   forgets e f {w₃} {h₃} {o'} g z =
       changes (parts w h b t) (sym k.is) (parts w₃ h₃ b₂ t) _ refl (Flag false) 0 z
       (λ l d. forgot retain (opened_of (parts w h b t)) l d o q lo lq (sym k.is) k.full (a.retires t) (tested e f) (g.forgets t))
+
+-- what `usable` asks, of a call past its entry
+pub checked_by : {s : SessionState} {l d o q : ℕ} {wrong raises : Bool} → Admitted s l d o q wrong raises → Checked s true
+checked_by a = record { is = sym a.sound; full = a.full }

@@ -10,8 +10,8 @@ ghost use Rattle.parts.specs.Driven.{Driven};
 ghost use Rattle.link_retires.specs.Steps.{Retiring, RetiresIn, ForgetsIn};
 
 use parts::{Bytes, Halves, LinkAnswer, SetupCode, Words};
-use peer_session::SessionState;
-use rules::{Refusal, Terms};
+use rules::Terms;
+use session::ANY;
 
 // No handoff, and an empty queue.
 fn retired(words: &mut Words, halves: &mut Halves, bytes: &mut Bytes, queue: &mut [u8])
@@ -53,14 +53,10 @@ pub fn retire(
 ) -> LinkAnswer
     ensures { Driven (parts words.old halves.old bytes.old clock.now) (parts words.new halves.new bytes.new clock.now) result (λ s y. CalledWithStoresAlone (retires retain) s outbound.old queue.old y outbound.new queue.new) }
 {
-    if outbound.len() < SessionState::OUTBOUND_BYTES {
-        return link_codes::refusal(Refusal::ShortBuffer);
-    }
-    if queue.len() < SessionState::QUEUE_BYTES {
-        return link_codes::refusal(Refusal::ShortBuffer);
-    }
-    if !link_sound::sound(words, halves, bytes) {
-        return link_codes::refusal(Refusal::BadRecord);
+    let o = outbound.len();
+    let q = queue.len();
+    if let Err(x) = link_entry::enters(words, halves, bytes, ANY, ANY, o, q, false, false) {
+        return link_codes::refusal(x);
     }
     let kept = setup::retains(retain, bytes[parts::DISPOSITION]);
     retired(words, halves, bytes, queue);

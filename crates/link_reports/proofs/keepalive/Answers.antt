@@ -1,25 +1,32 @@
 use native.Mathlib.Omega.{arith}
-use mathlib.Core.Path.{sym, ◌∙◌}
-use Rattle.link_reports.proofs.Keepalives.{told-short, told_unsound, told, retries}
+use mathlib.Core.Path.{refl}
+use Rattle.rules.specs.declared.Answer.TheVariants.{Refused}
+use Rattle.rules.specs.Calls.{gets_keepalive}
+use Rattle.rules.specs.Buffers.{taken_by, short, wrong_code}
+use Rattle.session.specs.Promise.{lent}
+use Rattle.session.proofs.Entries.{stops}
+use Rattle.session.proofs.Lengths.{not_taken}
+use Rattle.parts.specs.Parts.{parts, opened_of}
+use Rattle.parts.proofs.Drives.{tells}
+use Rattle.link_reports.proofs.Keepalives.{told, retries}
 use Rattle.link_reports.proofs.keepalive.Goals as goal
 
-pub returns-then-list-lt-EVENT_WORDS : goal.returns-then-list-lt-EVENT_WORDS
-returns-then-list-lt-EVENT_WORDS c =
-    told-short c.args.words.now c.args.halves.now c.args.bytes.now c.args.clock.now c.args.list.now c.if-list-lt-EVENT_WORDS.true c.refusal.ensures
+pub returns-in-Err : goal.returns-in-Err
+unfolding taken_by short wrong_code
+returns-in-Err c =
+    let p = parts c.args.words.now c.args.halves.now c.args.bytes.now c.args.clock.now in
+    tells p (Refused c.in-Err.x) 0 c.refusal.ensures (λ d o q lo lq. stops gets_keepalive (opened_of p) (lent c.args.list.now d o q) {r = record { session = opened_of p; answer = Refused c.in-Err.x; events = 0 }} (c.enters.ensures.tested c.args.clock.now) c.in-Err.is (record { session = refl; answer = refl; events = refl }) refl refl (λ h. lo) (λ h. lq) not_taken)
 
-pub returns-then-not-sound : goal.returns-then-not-sound
-returns-then-not-sound c =
-    told_unsound c.args.words.now c.args.halves.now c.args.bytes.now c.args.clock.now c.args.list.now c.if-list-lt-EVENT_WORDS.false
-    (sym (c.sound.ensures c.args.clock.now).is ∙ c.if-not-sound.true) c.refusal-then-not-sound.ensures
+pub emit-requires : goal.emit-requires
+emit-requires c = omega (arith, (c.in_default.ensures.passed c.args.clock.now).list)
 
 pub list_all-n-requires : goal.list_all-n-requires
 list_all-n-requires c =
-    let k = retries c.args.words.now c.args.halves.now c.args.bytes.now c.args.clock.now
-    (sym (c.sound.ensures c.args.clock.now).is ∙ c.if-not-sound.false) (c.sound.ensures c.args.clock.now).full in
-    (k, omega (arith, c.if-list-lt-EVENT_WORDS.false, k.exact.few))
+    let a = c.in_default.ensures.passed c.args.clock.now in
+    let k = retries c.args.words.now c.args.halves.now c.args.bytes.now c.args.clock.now a.sound a.full in
+    (k, omega (arith, a.list, k.exact.few))
 
 pub returns : goal.returns
 returns c =
-    told c.args.words.now c.args.halves.now c.args.bytes.now c.args.clock.now c.args.list.now c.if-list-lt-EVENT_WORDS.false
-    (sym (c.sound.ensures c.args.clock.now).is ∙ c.if-not-sound.false) (c.sound.ensures c.args.clock.now).full
-    c.emit.ensures c.list_all-n.ensures.listed c.flag.ensures
+    let a = c.in_default.ensures.passed c.args.clock.now in
+    told c.args.words.now c.args.halves.now c.args.bytes.now c.args.clock.now c.args.list.now a.list a.sound a.full c.emit.ensures c.list_all-n.ensures.listed c.flag.ensures

@@ -1,22 +1,28 @@
-use mathlib.Core.Path.{sym, ◌∙◌}
-use Rattle.link_sending.proofs.Sends.{found-sound}
-use Rattle.link_retires.proofs.Retires.{short-outbound, short-queue, unsound, keeps, left-exact, forgets}
+use mathlib.Core.Path.{refl}
+use Rattle.rules.specs.Calls.{retires}
+use Rattle.rules.specs.Buffers.{taken_by, short, wrong_code}
+use Rattle.session.specs.Promise.{lent}
+use Rattle.session.proofs.Entries.{stops}
+use Rattle.session.proofs.Lengths.{not_taken}
+use Rattle.parts.specs.Parts.{parts, opened_of}
+use Rattle.parts.proofs.Drives.{refuses}
+use Rattle.link_retires.proofs.Retires.{keeps, left-exact, forgets, checked_by}
 use Rattle.link_retires.proofs.retire.Goals as goal
 
-pub returns-then-outbound-lt-OUTBOUND_BYTES : goal.returns-then-outbound-lt-OUTBOUND_BYTES
-returns-then-outbound-lt-OUTBOUND_BYTES c = short-outbound c.args.retain _ c.args.outbound.now c.args.queue.now c.if-outbound-lt-OUTBOUND_BYTES.true c.refusal.ensures
+pub returns-in-Err : goal.returns-in-Err
+unfolding taken_by short wrong_code
+returns-in-Err c =
+    let p = parts c.args.words.now c.args.halves.now c.args.bytes.now c.args.clock.now in
+    refuses p _ c.refusal.ensures (λ r u l d. stops (retires c.args.retain) (opened_of p) (lent l d c.args.outbound.now c.args.queue.now) (c.enters.ensures.tested c.args.clock.now) c.in-Err.is u refl refl (λ h. h) (λ h. h) not_taken)
 
-pub returns-then-queue-lt-QUEUE_BYTES : goal.returns-then-queue-lt-QUEUE_BYTES
-returns-then-queue-lt-QUEUE_BYTES c = short-queue c.args.retain _ c.args.outbound.now c.args.queue.now c.if-queue-lt-QUEUE_BYTES.true c.refusal-then-queue-lt-QUEUE_BYTES.ensures
-
-pub returns-then-not-sound : goal.returns-then-not-sound
-returns-then-not-sound c = unsound c.args.retain _ c.args.outbound.now c.args.queue.now c.if-outbound-lt-OUTBOUND_BYTES.false c.if-queue-lt-QUEUE_BYTES.false (sym (c.sound.ensures c.args.clock.now).is ∙ c.if-not-sound.true) c.refusal-then-not-sound.ensures
+pub retired-requires : goal.retired-requires
+retired-requires c = record { checked = λ t. checked_by (c.in_default.ensures.passed t); room = (c.in_default.ensures.passed c.args.clock.now).queue }
 
 pub returns-then-kept : goal.returns-then-kept
-returns-then-kept c = keeps c.args.retain c.args.words.now c.args.halves.now c.args.bytes.now c.args.clock.now c.args.outbound.now c.args.queue.now c.if-outbound-lt-OUTBOUND_BYTES.false c.if-queue-lt-QUEUE_BYTES.false (found-sound (c.sound.ensures c.args.clock.now) (c.if-not-sound.false)) c.retired.ensures c.retains-kept.ensures c.if-kept.true c.flag.ensures
+returns-then-kept c = let a = c.in_default.ensures.passed c.args.clock.now in keeps c.args.retain c.args.words.now c.args.halves.now c.args.bytes.now c.args.clock.now c.args.outbound.now c.args.queue.now a.outbound a.queue (checked_by a) c.retired.ensures c.retains-kept.ensures c.if-kept.true c.flag.ensures
 
 pub forget-requires : goal.forget-requires
-forget-requires c = left-exact c.args.retain c.args.words.now c.args.halves.now c.args.bytes.now c.args.clock.now c.args.outbound.now c.args.queue.now c.if-outbound-lt-OUTBOUND_BYTES.false c.if-queue-lt-QUEUE_BYTES.false (found-sound (c.sound.ensures c.args.clock.now) (c.if-not-sound.false)) c.retired.ensures
+forget-requires c = let a = c.in_default.ensures.passed c.args.clock.now in left-exact c.args.retain c.args.words.now c.args.halves.now c.args.bytes.now c.args.clock.now c.args.outbound.now c.args.queue.now a.outbound a.queue (checked_by a) c.retired.ensures
 
 pub returns : goal.returns
-returns c = forgets c.args.retain c.args.words.now c.args.halves.now c.args.bytes.now c.args.clock.now c.args.outbound.now c.args.queue.now c.if-outbound-lt-OUTBOUND_BYTES.false c.if-queue-lt-QUEUE_BYTES.false (found-sound (c.sound.ensures c.args.clock.now) (c.if-not-sound.false)) c.retired.ensures c.retains-kept.ensures c.if-kept.false c.forget.ensures c.flag-2.ensures
+returns c = let a = c.in_default.ensures.passed c.args.clock.now in forgets c.args.retain c.args.words.now c.args.halves.now c.args.bytes.now c.args.clock.now c.args.outbound.now c.args.queue.now a.outbound a.queue (checked_by a) c.retired.ensures c.retains-kept.ensures c.if-kept.false c.forget.ensures c.flag-2.ensures
