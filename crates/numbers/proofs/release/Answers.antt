@@ -1,14 +1,6 @@
-use mathlib.Core.Path.{◌∙◌}
 use native.Mathlib.Omega.{arith}
-use Rattle.stores.proofs.Words.{byte-step}
-use Rattle.numbers.proofs.Passes.{releasing_none, releasing_more, releasing_all}
+use Rattle.numbers.proofs.Passes.{released_acks}
 use Rattle.numbers.proofs.release.Goals as goal
 
-pub loop-i-init : goal.loop-i-init
-loop-i-init c = releasing_none _ _ _ _ _ c.requires.1 (omega arith) c.requires.0
-
-pub loop-i-preserved : goal.loop-i-preserved
-loop-i-preserved c = releasing_more c.loop-i.invariant c.loop-i-test.true (c.from-k.ensures ∙ byte-step _) c.list_one-events.auto.list c.list_one-events.ensures
-
 pub returns : goal.returns
-returns c = releasing_all _ _ _ _ _ _ _ _ _ c.loop-i.invariant c.loop-i-test.false
+returns c = released_acks c.args.v _ c.requires.0 (omega arith) c.release_run-left.auto.run c.release_run-left.ensures

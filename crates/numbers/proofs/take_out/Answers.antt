@@ -1,18 +1,6 @@
-use mathlib.Core.Path.{ap, ◌∙◌}
-use mathlib.Core.Bool.{Bool, not}
 use native.Mathlib.Omega.{arith}
-use Rattle.stores.proofs.Sifts.{sifted_none, sifted_more}
-use Rattle.stores.proofs.Words.{byte-step, eqb_flip}
-use Rattle.numbers.specs.Seats.{step}
-use Rattle.numbers.proofs.Passes.{sifted_holds}
+use Rattle.numbers.proofs.Passes.{leads_hold}
 use Rattle.numbers.proofs.take_out.Goals as goal
 
-pub loop-i-init : goal.loop-i-init
-loop-i-init c = sifted_none _ _ _ (omega arith)
-
-pub loop-i-preserved : goal.loop-i-preserved
-loop-i-preserved c =
-    sifted_more c.loop-i.invariant 0 c.loop-i-test.true _ (c.from-k.ensures ∙ byte-step _ ∙ ap (λ (t : Bool). step (not t)) (eqb_flip _ c.args.n))
-
 pub returns : goal.returns
-returns c = sifted_holds _ _ _ _ _ (omega arith) c.requires c.loop-i.invariant c.loop-i-test.false
+returns c = leads_hold c.args.v _ c.requires (omega arith) c.drop_from_run-count.auto.run c.drop_from_run-count.ensures
