@@ -1,4 +1,4 @@
--- Loops over the numbers in use: some are dropped, some are listed. Assumes nothing.
+-- Loops over a run of numbers: some are dropped, some are listed. What a run so changed makes of the set that it is lent from. Assumes nothing.
 use Rattle.std.specs.Prelude.{if◌then◌else◌}
 use mathlib.Core.Path.{◌≡◌, refl, sym, ap, ◌∙◌, subst}
 use mathlib.Core.Bool.{Bool, true, false}
