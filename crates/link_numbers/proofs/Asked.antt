@@ -1,75 +1,40 @@
 -- What is asked of numbers from an index of the words on, and of a list that rises. Assumes nothing.
 use Prim.Native.Nat.{ℕ, zero, suc, ◌+◌, ◌-◌, ◌≤◌, ◌<◌}
-use mathlib.Core.Path.{◌≡◌, refl, sym, ap, ◌∙◌, subst}
-use mathlib.Core.Bool.{Bool, true, false, ◌&&◌, ◌||◌}
-use Rattle.std.specs.List.{list_any}
+use mathlib.Core.Path.{◌≡◌, refl, sym, ap, ◌∙◌}
+use mathlib.Core.Bool.{Bool, true, false, ◌&&◌}
 use mathlib.Core.List.{List, [], ◌∷◌}
 use native.Mathlib.Omega.{arith}
 use lib.ListN.{length, get_or, take, drop}
-use lib.Seq.{slice, get_or-take, length-take-le, take-take}
-use lib.Dec.{eqb, leb, ltb}
-use borrow.Author.Tests.{eq-eqb, ne_eqb, eqb-true, eqb-false, le-leb, lt-ltb, le-ltb, ltb-true, leb-true}
+use lib.Seq.{slice, get_or-take, length-take-le, take-take, drop-drop}
+use Rattle.stores.proofs.Packs.{drop-take}
+use lib.Dec.{leb, ltb}
+use borrow.Author.Tests.{le-leb, lt-ltb, le-ltb, ltb-true, leb-true}
 use Rattle.stores.specs.Fronts.{front}
-use Rattle.stores.proofs.Scans.{rises-on, rises_not}
-use Rattle.rules.specs.Lists.{any, has, all, rising, itself}
+use Rattle.rules.specs.Lists.{all, rising, itself}
 use Rattle.rules.specs.Sound.{at_most, ascending}
 use Rattle.rules.proofs.Lists.{and_left, and_right}
 use Rattle.numbers.specs.Seats.{under, seat_of}
-use Rattle.numbers.proofs.Laws.{ascending_some}
 use Rattle.parts.specs.Parts.{at, section}
 use Rattle.link_numbers.specs.Sets.{firsts}
 use Rattle.link_numbers.proofs.Sets.{section-length, section-at}
 
--- ---- the next of the numbers from index i on, by where it lies
+-- ---- the run of words that the code lends for the numbers in use, and for those from an index on
 
-module _ (from : ℕ) (w : List ℕ) (i n : ℕ) (few : n ≤ 512) (room : from + 512 ≤ length w) (h : i < n) where
-  abbrev s : List ℕ
-  s = section from 512 w
+module _ (from n : ℕ) (w : List ℕ) (few : n ≤ 512) where
+  pub run_is : take (from + n - from) (drop from w) ≡ firsts from n w
+  run_is = let e : from + n - from ≡ n = omega arith in ap (λ (k : ℕ). take k (drop from w)) e ∙ sym (take-take n 512 (drop from w) few)
 
-  here : at s i ≡ at w (from + i)
-  here = section-at from w i (omega arith)
-
-  m : n ≤ length s
-  m = omega (arith, section-length from w room)
-
-  pub rises_in : (last : ℕ) → last < at w (from + i) → rising itself last (slice i n s) ≡ rising itself (at w (from + i)) (slice (i + 1) n s)
-  rises_in last = subst (λ (x : ℕ). last < x → rising itself last (slice i n s) ≡ rising itself x (slice (i + 1) n s)) here (rises-on itself s i n 0 h m last)
-
-  pub rises-stop : (last : ℕ) → at w (from + i) ≤ last → rising itself last (slice i n s) ≡ false
-  rises-stop last = subst (λ (x : ℕ). x ≤ last → rising itself last (slice i n s) ≡ false) here (rises_not itself s i n 0 h m last)
-
--- ---- whether a number is there
-
-eqb_sym : (a b : ℕ) → eqb a b ≡ eqb b a
-eqb_sym a b = go (eqb a b) refl
-  where
-    go : (t : Bool) → eqb a b ≡ t → eqb a b ≡ eqb b a
-    go true e = e ∙ sym (eq-eqb b a (sym (eqb-true a b e)))
-    go false e = e ∙ sym (ne_eqb b a (λ h. eqb-false a b e (sym h)))
-
-any_is : (n : ℕ) (l : List ℕ) → list_any (λ y. eqb y n) l ≡ any (eqb n) l
-unfolding any
-any_is n [] = refl
-any_is n (x ∷ xs) = ap (λ (t : Bool). t || list_any (λ y. eqb y n) xs) (eqb_sym x n) ∙ ap (λ (t : Bool). eqb n x || t) (any_is n xs)
-
-pub has_in : (from n : ℕ) (w : List ℕ) (x : ℕ) → n ≤ 512 → list_any (λ y. eqb y x) (take (from + n - from) (drop from w)) ≡ has x (firsts from n w)
-unfolding has
-has_in from n w x few =
-    let e : from + n - from ≡ n = omega arith in
-    ap (λ (k : ℕ). list_any (λ y. eqb y x) (take k (drop from w))) e ∙ any_is x (take n (drop from w)) ∙ ap (any (eqb x)) (sym (take-take n 512 (drop from w) few))
-
--- ---- ascending
+  pub run_from : (first : ℕ) → take (from + n - (from + first)) (drop (from + first) w) ≡ slice first n (section from 512 w)
+  run_from first =
+      let e : from + n - (from + first) ≡ n - first = omega arith in
+      ap (λ (k : ℕ). take k (drop (from + first) w)) e
+      ∙ ap (take (n - first)) (sym (drop-drop first from w))
+      ∙ sym (drop-take first n (drop from w))
+      ∙ ap (drop first) (sym (take-take n 512 (drop from w) few))
 
 pos : (n : ℕ) → (n ≡ 0 → ⊥) → 0 < n
 pos zero q = absurd (q refl)
 pos (suc n) q = omega arith
-
-module _ (from : ℕ) (w : List ℕ) (n : ℕ) (few : n ≤ 512) (room : from + 512 ≤ length w) where
-  pub ascends_some : (n ≡ 0 → ⊥) → ascending (firsts from n w) ≡ rising itself (at w from) (slice 1 n (section from 512 w))
-  ascends_some e =
-      let z : at (section from 512 w) 0 ≡ at w from = section-at from w 0 (omega arith) ∙ ap (at w) (omega arith) in
-      subst (λ (x : ℕ). ascending (firsts from n w) ≡ rising itself x (slice 1 n (section from 512 w))) z
-      (ascending_some (record { values = section from 512 w; count = n }) e few (section-length from w room))
 
 -- ---- a list that ascends
 

@@ -1,12 +1,15 @@
 -- Sets of numbers that change in place: what a loop keeps, and what is there at its end. Assumes nothing.
-use Rattle.std.specs.Prelude.{if◌then◌else◌}
-use Prim.Native.Nat.{ℕ, ◌+◌, ◌-◌, ◌*◌, ◌≤◌, ◌<◌}
+use Prim.Native.Nat.{ℕ, ◌+◌, ◌-◌, ◌≤◌, ◌<◌}
 use mathlib.Core.Path.{◌≡◌, sym, ap, ◌∙◌, subst}
 use mathlib.Core.Bool.{Bool}
-use mathlib.Core.List.{List, [], ◌∷◌, ◌++◌, map}
+use mathlib.Core.List.{List, ◌∷◌, ◌++◌}
 use native.Mathlib.Omega.{arith}
 use lib.ListN.{length, take, drop, set, length-take, length-drop}
-use lib.Seq.{get_or-set_same}
+use lib.Seq.{get_or-set_same, drop_at, take-append-add}
+use native.Mathlib.Nat.{add-zero}
+use borrow.Rule.Slice.PartMut.{put_mid, same_len_mid, take_put}
+use Rattle.std.proofs.lemmas.Slice.{drop-put_mid}
+use Rattle.stores.proofs.Packs.{drop-take}
 use Rattle.std.specs.List.{CopiedTo, SameBelow, SameFrom}
 use Rattle.std.proofs.Common.{ext_get_or}
 use Rattle.std.proofs.lemmas.List.{get_or_append_left, get_or-append_right, get_or-take, get_or-drop, length-take-le}
@@ -15,18 +18,16 @@ use Rattle.rules.proofs.Lists.{if_rule}
 use Rattle.stores.proofs.Laws.{length-placed}
 use lib.Dec.{ltb}
 use Rattle.stores.specs.Placed.{placed}
-use Rattle.events.specs.Written.{Listed}
-use Rattle.stores.proofs.Sifts.{Sifted, sifted_none, sifted_more}
 use Rattle.rules.specs.Lists.{kept, put, itself}
-use Rattle.rules.specs.Commits.{releases_ack}
-use Rattle.rules.specs.Events.{send_ack}
 use Rattle.numbers.specs.declared.Numbers.{Numbers}
-use Rattle.numbers.specs.Seats.{in_use, ExactNumbers, Holds, seat_of, step}
+use Rattle.numbers.specs.declared.ReleasedRun.{ReleasedRun}
+use Rattle.numbers.specs.Seats.{in_use, ExactNumbers, Holds, Leads, ReleasesRun, seat_of}
 use Rattle.numbers.proofs.Laws.{put-at-is, put_old, put-room, put-new, seat_within}
-use Rattle.numbers.proofs.Passes.{sifted_holds, Releasing, releasing_none, releasing_more, releasing_all, ListingAll, all_more}
+use Rattle.numbers.proofs.Passes.{leads_hold, released_acks}
 use Rattle.parts.specs.Parts.{at, section, numbers_in}
 use Rattle.parts.specs.Frames.{Only}
 use Rattle.link_numbers.specs.Sets.{Set, Rising, Becomes, Releases}
+use Rattle.link_numbers.proofs.Asked.{run_is}
 use Rattle.link_numbers.proofs.Sets.{section-room, section-length, section-at, section-set, section-before, only_none, only-number, only-count}
 
 -- words where only a set changes. `few` and `room` are there for `omega`
@@ -35,9 +36,6 @@ pub record Changing (from count : ℕ) (w₀ w : List ℕ) : Type 0 where
   pub few : at w₀ count ≤ 512
   pub room : from + 512 ≤ length w
   pub only : Only from count w₀ w
-
-pub changing_none : {from count : ℕ} {w : List ℕ} → Set from count w → Changing from count w w
-changing_none {from} {count} {w} s = record { set = s; few = s.exact.few; room = section-room from w s.exact.full; only = only_none from count w }
 
 module _ {from count : ℕ} {w₀ w : List ℕ} (c : Changing from count w₀ w) where
   pub changing_number : (i x : ℕ) → i < 512 → Changing from count w₀ (set w (from + i) x)
@@ -137,89 +135,67 @@ module _ (from count : ℕ) (w w' : List ℕ) (s : Set from count w) (i : ℕ) (
       (sym (section-set from w' i n (omega arith)))
       (put-at-is (numbers_in from count w) n i free s.exact.full within (section from 512 w') made))
 
--- ---- one pass over the set, in which some numbers go
+-- ---- the numbers in use, as a run that has changed in place
 
-pub record Sifting (p : ℕ → Bool) (from count size : ℕ) (w₀ w : List ℕ) (i k : ℕ) : Type 0 where
-  pub changing : Changing from count w₀ w
-  pub few : size ≤ 512
-  pub sifted : Sifted p (section from 512 w₀) size (section from 512 w) i k
+module _ {from count : ℕ} {w : List ℕ} (s : Set from count w) (run : List ℕ) (same : length run ≡ length (take (from + at w count - from) (drop from w))) where
+  abbrev k : ℕ
+  k = from + at w count - from
 
-pub sifting_none : (p : ℕ → Bool) {from count : ℕ} {w : List ℕ} → Set from count w → Sifting p from count (at w count) w w 0 0
-sifting_none p {from} {count} {w} s =
-    record {
-      changing = changing_none s;
-      few = s.exact.few;
-      sifted = sifted_none p (section from 512 w) (at w count) (omega (arith, s.exact));
-    }
+  abbrev w' : List ℕ
+  w' = put_mid from k w run
 
-module _ {p : ℕ → Bool} {from count size : ℕ} {w₀ w : List ℕ} {i k : ℕ} (s : Sifting p from count size w₀ w i k) where
-  pub sifting_more : (v : ℕ) → i < size → v ≡ (if p (at w (from + i)) then 1 else 0) → Sifting p from count size w₀ (set w (from + k) (at w (from + i))) (i + 1) (k + v)
-  sifting_more v h ev =
-      let x : ℕ = at w (from + i) in
-      let kk : k < 512 = omega (arith, s.few, s.sifted.behind) in
-      let ex : at (section from 512 w) i ≡ x = section-at from w i (omega (arith, s.few)) in
-      let es : set (section from 512 w) k (at (section from 512 w) i) ≡ section from 512 (set w (from + k) x) =
-      ap (λ (y : ℕ). set (section from 512 w) k y) ex ∙ sym (section-set from w k x kk) in
-      let ev' : v ≡ (if p (at (section from 512 w) i) then 1 else 0) = ev ∙ ap (λ (y : ℕ). if p y then 1 else 0) (sym ex) in
+  wide : from + 512 ≤ length w
+  wide = section-room from w s.exact.full
+
+  size : length run ≡ at w count
+  size = same ∙ simp (length-take, length-drop) (omega (arith, wide, s.exact.few))
+
+  run_changes : Changing from count w w'
+  run_changes =
+      let e : length w' ≡ length w = same_len_mid from k w run same in
       record {
-        changing = changing_number s.changing k x kk;
-        few = s.few;
-        sifted = subst (λ (l : List ℕ). Sifted p (section from 512 w₀) size l (i + 1) (k + v)) es (sifted_more s.sifted 0 h v ev');
+        set = s;
+        few = s.exact.few;
+        room = omega (arith, wide);
+        only =
+            record {
+              size = e;
+              below = λ j h _. sym (get_or-take from w' j 0 h) ∙ ap (λ (l : List ℕ). at l j) (take_put from k w run (omega (arith, wide))) ∙ get_or-take from w j 0 h;
+              above = λ j h.
+                  ap (at w') (sym (add-zero j))
+                  ∙ sym (get_or-drop j w' 0 0)
+                  ∙ ap (λ (l : List ℕ). at l 0) (drop-put_mid from k w run j (omega (arith, s.exact.few)) (omega (arith, wide)) (omega (arith, size)))
+                  ∙ get_or-drop j w 0 0
+                  ∙ ap (at w) (add-zero j);
+            };
       }
 
-pub sifted_out : {p : ℕ → Bool} {from count : ℕ} {w₀ w : List ℕ} {i k : ℕ} → Sifting p from count (at w₀ count) w₀ w i k → at w₀ count ≤ i
-    → Becomes (kept p (in_use (numbers_in from count w₀))) from count w₀ (set w count k)
-sifted_out {p} {from} {count} {w₀} {w} {i} {k} s h =
-    becomes s.changing (kept p (in_use (numbers_in from count w₀))) k
-    (sifted_holds p (numbers_in from count w₀) (section from 512 w) i k
-    s.changing.set.exact.full s.few s.sifted h)
+  run_section : section from 512 w' ≡ run ++ drop (at w count) (section from 512 w)
+  run_section =
+      let e : 512 ≡ length run + (512 - at w count) = omega (arith, size, s.exact.few) in
+      let f : k ≡ at w count = omega arith in
+      ap (take 512) (drop_at (take from w) (run ++ drop k (drop from w)) from (length-take-le from w (omega (arith, wide))))
+      ∙ ap (λ (j : ℕ). take j (run ++ drop k (drop from w))) e
+      ∙ take-append-add run (drop k (drop from w)) (512 - at w count)
+      ∙ ap (λ (j : ℕ). run ++ take (512 - at w count) (drop j (drop from w))) f
+      ∙ ap (λ (l : List ℕ). run ++ l) (sym (drop-take (at w count) 512 (drop from w)))
 
--- ---- one pass in which they are listed too
+  as_long : length run ≡ length (in_use (numbers_in from count w))
+  as_long = same ∙ ap length (run_is from (at w count) w s.exact.few)
 
-pub record ReleasingIn (upto from count size : ℕ) (w₀ list₀ : List ℕ) (n : ℕ) (w list : List ℕ) (m k i : ℕ) : Type 0 where
-  pub changing : Changing from count w₀ w
-  pub releasing : Releasing upto (section from 512 w₀) size list₀ n list (section from 512 w) m k i
+  pub run_becomes : (p : ℕ → Bool) {j : ℕ} → Leads (kept p (take k (drop from w))) j run → Becomes (kept p (in_use (numbers_in from count w))) from count w (set w' count j)
+  run_becomes p {j} h =
+      let l : Leads (kept p (in_use (numbers_in from count w))) j run = subst (λ (ns : List ℕ). Leads (kept p ns) j run) (run_is from (at w count) w s.exact.few) h in
+      becomes run_changes (kept p (in_use (numbers_in from count w))) j
+      (subst (λ (l : List ℕ). Holds (kept p (in_use (numbers_in from count w))) (record { values = l; count = j })) (sym run_section)
+      (leads_hold (numbers_in from count w) run s.exact.few s.exact.full as_long l))
 
-pub releasing_in : (upto : ℕ) {from count : ℕ} {w : List ℕ} (list : List ℕ) (n : ℕ) → Set from count w → 4 * (n + at w count) ≤ length list
-    → ReleasingIn upto from count (at w count) w list n w list n 0 0
-releasing_in upto {from} {count} {w} list n s h =
-    record { changing = changing_none s; releasing = releasing_none upto (section from 512 w) (at w count) list n h s.exact.full s.exact.few }
-
-module _ {upto from count size : ℕ} {w₀ list₀ : List ℕ} {n : ℕ} {w list : List ℕ} {m k i : ℕ} (s : ReleasingIn upto from count size w₀ list₀ n w list m k i) where
-  pub releasing_on : {v m' : ℕ} {list' : List ℕ} → i < size → v ≡ step (ltb upto (at w (from + i))) → length list' ≡ length list
-      → Listed (map send_ack (kept (releases_ack upto) (at w (from + i) ∷ []))) list m list' m'
-      → ReleasingIn upto from count size w₀ list₀ n (set w (from + k) (at w (from + i))) list' m' (k + v) (i + 1)
-  releasing_on {v} {m'} {list'} h ev el x =
-      let y : ℕ = at w (from + i) in
-      let kk : k < 512 = omega (arith, s.releasing.few, s.releasing.sifted.behind) in
-      let ey : at (section from 512 w) i ≡ y = section-at from w i (omega (arith, s.releasing.few)) in
-      let es : set (section from 512 w) k (at (section from 512 w) i) ≡ section from 512 (set w (from + k) y) =
-      ap (λ (z : ℕ). set (section from 512 w) k z) ey ∙ sym (section-set from w k y kk) in
-      let ev' : v ≡ step (ltb upto (at (section from 512 w) i)) = ev ∙ ap (λ (z : ℕ). step (ltb upto z)) (sym ey) in
-      let x' : Listed (map send_ack (kept (releases_ack upto) (at (section from 512 w) i ∷ []))) list m list' m' =
-      subst (λ (z : ℕ). Listed (map send_ack (kept (releases_ack upto) (z ∷ []))) list m list' m') (sym ey) x in
-      record {
-        changing = changing_number s.changing k y kk;
-        releasing =
-            subst (λ (l : List ℕ). Releasing upto (section from 512 w₀) size list₀ n list' l m' (k + v) (i + 1)) es
-            (releasing_more s.releasing h ev' el x');
-      }
-
-pub released : {upto from count : ℕ} {w₀ list₀ : List ℕ} {n : ℕ} {w list : List ℕ} {m k i : ℕ} → ReleasingIn upto from count (at w₀ count) w₀ list₀ n w list m k i
-    → at w₀ count ≤ i → Releases upto from count w₀ list₀ n (set w count k) list m
-released {upto} {from} {count} {w₀} {list₀} {n} {w} {list} {m} {k} {i} s h =
-    let r = releasing_all upto (numbers_in from count w₀) list₀ n list (section from 512 w) m k i s.releasing h in
-    let b = becomes s.changing (kept (ltb upto) (in_use (numbers_in from count w₀))) k r.holds in
-    record { released = record { holds = b.holds; few = r.few; listed = r.listed }; only = b.only }
-
--- ---- each of them listed
-
-module _ (from : ℕ) (w : List ℕ) {size : ℕ} {list₀ : List ℕ} {n : ℕ} {list : List ℕ} {i : ℕ} (s : ListingAll (section from 512 w) size list₀ n list i) where
-  pub listing-on : {list' : List ℕ} → i < size → length list' ≡ length list → list' ≡ placed list (4 * (n + i)) (9 ∷ at w (from + i) ∷ 0 ∷ 0 ∷ [])
-      → ListingAll (section from 512 w) size list₀ n list' (i + 1)
-  listing-on {list'} h el e =
-      all_more s h el
-      (e ∙ ap (λ (x : ℕ). placed list (4 * (n + i)) (9 ∷ x ∷ 0 ∷ 0 ∷ [])) (sym (section-at from w i (omega (arith, s.few)))))
+  pub run_releases : {upto n : ℕ} {l l' : List ℕ} {r : ReleasedRun} → ReleasesRun upto (take k (drop from w)) l n run r l' → Releases upto from count w l n (set w' count r.count) l' r.events
+  run_releases {upto} {n} {l} {l'} {r} h =
+      let g : ReleasesRun upto (in_use (numbers_in from count w)) l n run r l' = subst (λ (ns : List ℕ). ReleasesRun upto ns l n run r l') (run_is from (at w count) w s.exact.few) h in
+      let b = run_becomes (ltb upto) h.leads in
+      let a = released_acks (numbers_in from count w) run s.exact.few s.exact.full as_long g in
+      record { released = record { holds = b.holds; few = a.few; listed = a.listed }; only = b.only }
 
 -- ---- a set that rises, with a number put
 

@@ -13,7 +13,6 @@ ghost use Rattle.parts.specs.Parts.{section, numbers_in};
 ghost use Rattle.link_numbers.specs.Sets.{Set, Lies, firsts, Rising, Becomes, Releases};
 
 use parts::Words;
-use rules::EventCode;
 
 // ---- asked
 
@@ -22,15 +21,7 @@ pub fn rises(words: &Words, from: usize, count: usize, first: usize, last: u64) 
     requires { Lies from count words.now × (first ≤ count) }
     ensures { result ≡ rising itself last (slice first count (section from 512 words.now)) }
 {
-    let mut top = last;
-    for i in first..count {
-        let x = words[from + i];
-        if x <= top {
-            return false;
-        }
-        top = x;
-    }
-    true
+    numbers::run_rises(&words[from + first..from + count], last)
 }
 
 // Whether no number of a set that rises is above limit: the last one decides.
@@ -38,10 +29,7 @@ pub fn at_most(words: &Words, from: usize, count: usize, limit: u64) -> bool
     requires { Lies from count words.now × (ascending (firsts from count words.now) ≡ true) }
     ensures { result ≡ all (at_most limit) (firsts from count words.now) }
 {
-    if count == 0 {
-        return true;
-    }
-    words[from + (count - 1)] <= limit
+    count == 0 || words[from + (count - 1)] <= limit
 }
 
 // Whether the numbers are strictly rising, from any first one on.
@@ -49,14 +37,10 @@ pub fn ascends(words: &Words, from: usize, count: usize) -> bool
     requires { Lies from count words.now }
     ensures { result ≡ ascending (firsts from count words.now) }
 {
-    if count == 0 {
-        return true;
-    }
-    let first = words[from];
-    rises(words, from, count, 1, first)
+    numbers::run_ascends(&words[from..from + count])
 }
 
-// Whether a number is in use.
+// Whether a number is in use. Stays beside `numbers::has`: one library call in each.
 pub fn has(words: &Words, from: usize, count: usize, n: u64) -> bool
     requires { Lies from count words.now }
     ensures { result ≡ has n (firsts from count words.now) }
@@ -97,11 +81,7 @@ pub fn put(words: &mut Words, from: usize, at: usize, n: u64)
 {
     let count = words[at] as usize;
     let i = seat(words, from, count, n);
-    if i < count {
-        if words[from + i] == n {
-            return;
-        }
-        put_at(words, from, at, i, n);
+    if i < count && words[from + i] == n {
         return;
     }
     put_at(words, from, at, i, n);
@@ -115,13 +95,8 @@ pub fn take_out(words: &mut Words, from: usize, at: usize, n: u64)
     ensures { Becomes (kept (differs_from n) (in_use (numbers_in from at words.old))) from at words.old words.new }
 {
     let count = words[at] as usize;
-    let mut k = 0;
-    for i in 0..count {
-        let x = words[from + i];
-        words[from + k] = x;
-        k += usize::from(n != x);
-    }
-    words[at] = k as u64;
+    let left = numbers::drop_from_run(&mut words[from..from + count], n);
+    words[at] = left as u64;
 }
 
 // The numbers up to upto are listed by code 9, from event number n on; the later ones stay.
@@ -137,16 +112,9 @@ pub fn release(
     ensures { Releases upto from at words.old list.old n words.new list.new result }
 {
     let count = words[at] as usize;
-    let mut events = n;
-    let mut k = 0;
-    for i in 0..count {
-        let x = words[from + i];
-        words[from + k] = x;
-        k += usize::from(upto < x);
-        events = numbers::list_one(upto, x, list, events);
-    }
-    words[at] = k as u64;
-    events
+    let left = numbers::release_run(&mut words[from..from + count], upto, list, n);
+    words[at] = left.count as u64;
+    left.events
 }
 
 // Lists each number by code 9, from event number n on.
@@ -156,9 +124,5 @@ pub fn list_all(words: &Words, from: usize, at: usize, list: &mut [u64], n: usiz
     ensures count { result ≡ n + (numbers_in from at words.now).count }
 {
     let count = words[at] as usize;
-    for i in 0..count {
-        let x = words[from + i];
-        events::emit(list, n + i, EventCode::SendAck as u64, x, 0, 0);
-    }
-    n + count
+    numbers::list_run(&words[from..from + count], list, n)
 }

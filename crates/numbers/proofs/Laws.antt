@@ -1,17 +1,15 @@
 -- The numbers in use, and a number put at its place. Assumes nothing.
 use mathlib.Core.Path.{◌≡◌, refl, sym, ap, ◌∙◌}
-use mathlib.Core.Bool.{true}
 use mathlib.Core.List.{List, ◌∷◌, ◌++◌}
-use Prim.Native.Nat.{ℕ, zero, suc, ◌+◌, ◌-◌, ◌≤◌, ◌<◌}
+use Prim.Native.Nat.{ℕ, suc, ◌+◌, ◌-◌, ◌≤◌, ◌<◌}
 use native.Mathlib.Omega.{arith}
 use lib.ListN.{length, take, drop, get_or, set, length-append, length-take, length-drop, length-set}
-use lib.Seq.{slice, length-take-le, get_or-take}
+use lib.Seq.{length-take-le, get_or-take}
 use Rattle.stores.specs.Placed.{placed}
 use Rattle.stores.proofs.Laws.{length-placed}
-use Rattle.stores.proofs.Packs.{slice-step, opened}
+use Rattle.stores.proofs.Packs.{opened}
 use Rattle.stores.proofs.Seats.{Seated, seated}
-use Rattle.rules.specs.Lists.{itself, rising, put}
-use Rattle.rules.specs.Sound.{ascending}
+use Rattle.rules.specs.Lists.{itself, put}
 use Rattle.numbers.specs.declared.Numbers.{Numbers}
 use Rattle.numbers.specs.Seats.{in_use, seat_of, ExactNumbers, Holds}
 
@@ -75,18 +73,3 @@ module _ (v : Numbers) (n k : ℕ) (few : v.count ≤ 512) (full : length v.valu
 
     pub put-new : (r : Numbers) → Holds (take k (in_use v) ++ (n ∷ drop k (in_use v))) r → Holds (put itself n (in_use v)) r
     put-new r p = rw put_is p
-
--- ---- a set that ascends
-
-pub ascending-none : (v : Numbers) → v.count ≡ 0 → ascending (in_use v) ≡ true
-ascending-none v e = ap (λ (k : ℕ). ascending (take k v.values)) e
-
-pub ascending_some : (v : Numbers) → (v.count ≡ 0 → ⊥) → v.count ≤ 512 → length v.values ≡ 512
-    → ascending (in_use v) ≡ rising itself (get_or v.values 0 0) (slice 1 v.count v.values)
-ascending_some v e few full =
-    let lt : 0 < v.count = pos v.count e in
-    ap ascending (slice-step v.values 0 v.count 0 lt (omega arith))
-  where
-    pos : (n : ℕ) → (n ≡ 0 → ⊥) → 0 < n
-    pos zero q = absurd (q refl)
-    pos (suc n) q = omega arith

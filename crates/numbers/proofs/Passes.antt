@@ -1,4 +1,4 @@
--- Loops over the numbers in use: some are dropped, some are listed. Assumes nothing.
+-- Loops over a run of numbers: some are dropped, some are listed. What a run so changed makes of the set that it is lent from. Assumes nothing.
 use Rattle.std.specs.Prelude.{if◌then◌else◌}
 use mathlib.Core.Path.{◌≡◌, refl, sym, ap, ◌∙◌, subst}
 use mathlib.Core.Bool.{Bool, true, false}
@@ -6,10 +6,11 @@ use mathlib.Core.List.{List, [], ◌∷◌, ◌++◌, map}
 use Prim.Native.Nat.{ℕ, ◌+◌, ◌*◌, ◌≤◌, ◌<◌}
 use native.Mathlib.Omega.{arith}
 use native.Mathlib.Numerals.{add-one}
-use lib.ListN.{length, take, get_or, set}
-use lib.Seq.{take-suc}
+use lib.ListN.{length, take, drop, get_or, set, length-append, length-take, length-drop}
+use lib.Seq.{take-suc, take_all, take-length, length-take-le}
 use lib.Dec.{ltb, leb}
 use borrow.Author.Tests.{le-leb, lt-leb}
+use Rattle.std.proofs.lemmas.List.{take-append-le}
 use Rattle.stores.specs.Placed.{placed}
 use Rattle.stores.proofs.Packs.{map-append}
 use Rattle.stores.proofs.Sifts.{Sifted, sifted_none, sifted_at, sifted_more, sifted_all, kept_next}
@@ -20,15 +21,13 @@ use Rattle.rules.specs.Commits.{releases_ack}
 use Rattle.events.specs.Written.{Listed}
 use Rattle.events.proofs.Laws.{listed-none, listed_then}
 use Rattle.numbers.specs.declared.Numbers.{Numbers}
-use Rattle.numbers.specs.Seats.{in_use, step, Holds, ReleasesAcks}
+use Rattle.numbers.specs.declared.ReleasedRun.{ReleasedRun}
+use Rattle.numbers.specs.Seats.{in_use, step, Holds, Leads, ReleasesRun, ReleasesAcks}
 
 -- ---- what stays
 
-pub sifted_holds : (p : ℕ → Bool) (v : Numbers) (l : List ℕ) (i k : ℕ) → length v.values ≡ 512 → v.count ≤ 512 → Sifted p v.values v.count l i k
-    → v.count ≤ i → Holds (kept p (in_use v)) (record { values = l; count = k })
-sifted_holds p v l i k full few s h =
-    let a = sifted_all s h in
-    record { count = a.1; held = a.0; exact = record { full = s.same ∙ full; few = omega (arith, a.2) } }
+pub sifted_leads : {p : ℕ → Bool} {ns₀ ns : List ℕ} {i k : ℕ} → Sifted p ns₀ (length ns₀) ns i k → length ns₀ ≤ i → Leads (kept p ns₀) k ns
+sifted_leads {p} {ns₀} s h = let a = sifted_all s h in let e : take (length ns₀) ns₀ ≡ ns₀ = take-length ns₀ in record { count = a.1 ∙ ap (λ (l : List ℕ). length (kept p l)) e; held = a.0 ∙ ap (kept p) e }
 
 -- ---- what is listed
 
@@ -86,84 +85,83 @@ module _ (upto x : ℕ) where
 
 -- ---- both at once
 
-pub record Releasing (upto : ℕ) (ns₀ : List ℕ) (count : ℕ) (list₀ : List ℕ) (n : ℕ) (list ns : List ℕ) (m k i : ℕ) : Type 0 where
-  pub sifted : Sifted (ltb upto) ns₀ count ns i k
+pub record Releasing (upto : ℕ) (ns₀ list₀ : List ℕ) (n : ℕ) (list ns : List ℕ) (m k i : ℕ) : Type 0 where
+  pub sifted : Sifted (ltb upto) ns₀ (length ns₀) ns i k
   pub listing : Listing (map send_ack (kept (releases_ack upto) (take i ns₀))) i list₀ n list m
-  pub room : 4 * (n + count) ≤ length list₀
-  pub full : length ns₀ ≡ 512
-  pub few : count ≤ 512
+  pub room : 4 * (n + length ns₀) ≤ length list₀
 
-pub releasing_none : (upto : ℕ) (ns : List ℕ) (count : ℕ) (list : List ℕ) (n : ℕ) → 4 * (n + count) ≤ length list → length ns ≡ 512 → count ≤ 512
-    → Releasing upto ns count list n list ns n 0 0
+pub releasing_none : (upto : ℕ) (ns list : List ℕ) (n : ℕ) → 4 * (n + length ns) ≤ length list → Releasing upto ns list n list ns n 0 0
 unfolding kept
-releasing_none upto ns count list n room full few =
-    record { sifted = sifted_none (ltb upto) ns count (omega arith); listing = listing_none list n; room = room; full = full; few = few }
+releasing_none upto ns list n room =
+    record { sifted = sifted_none (ltb upto) ns (length ns) (omega arith); listing = listing_none list n; room = room }
 
-module _ {upto : ℕ} {ns₀ : List ℕ} {count : ℕ} {list₀ : List ℕ} {n : ℕ} {list ns : List ℕ} {m k i : ℕ} (s : Releasing upto ns₀ count list₀ n list ns m k i) where
-  pub releasing_more : {v m' : ℕ} {list' : List ℕ} → i < count → v ≡ step (ltb upto (get_or ns i 0)) → length list' ≡ length list
+module _ {upto : ℕ} {ns₀ list₀ : List ℕ} {n : ℕ} {list ns : List ℕ} {m k i : ℕ} (s : Releasing upto ns₀ list₀ n list ns m k i) where
+  pub releasing_more : {v m' : ℕ} {list' : List ℕ} → i < length ns₀ → v ≡ step (ltb upto (get_or ns i 0)) → length list' ≡ length list
       → Listed (map send_ack (kept (releases_ack upto) (get_or ns i 0 ∷ []))) list m list' m'
-      → Releasing upto ns₀ count list₀ n list' (set ns k (get_or ns i 0)) m' (k + v) (i + 1)
+      → Releasing upto ns₀ list₀ n list' (set ns k (get_or ns i 0)) m' (k + v) (i + 1)
   releasing_more {v} {m'} {list'} h ev el x =
       let g = listing_more s.listing (omega (arith, s.room)) (map send_ack (kept (releases_ack upto) (get_or ns i 0 ∷ []))) (one_at_most upto (get_or ns i 0)) el x in
       let e : map send_ack (kept (releases_ack upto) (take i ns₀)) ++ map send_ack (kept (releases_ack upto) (get_or ns i 0 ∷ []))
       ≡ map send_ack (kept (releases_ack upto) (take (i + 1) ns₀)) =
       ap (λ (y : ℕ). map send_ack (kept (releases_ack upto) (take i ns₀)) ++ map send_ack (kept (releases_ack upto) (y ∷ []))) (sifted_at s.sifted 0 h)
-      ∙ sym (acks-next (releases_ack upto) ns₀ i (omega (arith, s.sifted.room))) in
+      ∙ sym (acks-next (releases_ack upto) ns₀ i h) in
       record {
         sifted = sifted_more s.sifted 0 h v ev;
         listing = subst (λ (es : List Event). Listing es (i + 1) list₀ n list' m') e g;
         room = s.room;
-        full = s.full;
-        few = s.few;
       }
 
-pub releasing_all : (upto : ℕ) (v : Numbers) (list₀ : List ℕ) (n : ℕ) (list ns : List ℕ) (m k i : ℕ) → Releasing upto v.values v.count list₀ n list ns m k i
-    → v.count ≤ i → ReleasesAcks upto v list₀ n (record { numbers = record { values = ns; count = k }; events = m }) list
-releasing_all upto v list₀ n list ns m k i s h =
-    let e : i ≡ v.count = omega (arith, s.sifted.within) in
-    record {
-      holds = sifted_holds (ltb upto) v ns i k s.full s.few s.sifted h;
-      few = omega (arith, s.listing.few);
-      listed = subst (λ (j : ℕ). Listed (map send_ack (kept (releases_ack upto) (take j v.values))) list₀ n list m) e s.listing.listed;
-    }
+  pub releasing_all : length ns₀ ≤ i → ReleasesRun upto ns₀ list₀ n ns (record { count = k; events = m }) list
+  releasing_all h =
+      let e : take i ns₀ ≡ ns₀ = take_all i ns₀ h in
+      record {
+        leads = sifted_leads s.sifted h;
+        few = omega (arith, s.listing.few, s.sifted.within);
+        listed = subst (λ (ns : List ℕ). Listed (map send_ack (kept (releases_ack upto) ns)) list₀ n list m) e s.listing.listed;
+      }
 
 -- ---- each number
 
-pub record ListingAll (ns : List ℕ) (count : ℕ) (list₀ : List ℕ) (n : ℕ) (list : List ℕ) (i : ℕ) : Type 0 where
-  pub within : i ≤ count
-  pub room : 4 * (n + count) ≤ length list₀
-  pub full : length ns ≡ 512
-  pub few : count ≤ 512
+pub record ListingAll (ns list₀ : List ℕ) (n : ℕ) (list : List ℕ) (i : ℕ) : Type 0 where
+  pub within : i ≤ length ns
+  pub room : 4 * (n + length ns) ≤ length list₀
   pub listing : Listing (map send_ack (take i ns)) i list₀ n list (n + i)
 
-module _ {ns : List ℕ} {count : ℕ} {list₀ : List ℕ} {n : ℕ} {list : List ℕ} {i : ℕ} (s : ListingAll ns count list₀ n list i) where
-  pub all_more : {list' : List ℕ} → i < count → length list' ≡ length list → list' ≡ placed list (4 * (n + i)) (9 ∷ get_or ns i 0 ∷ 0 ∷ 0 ∷ [])
-      → ListingAll ns count list₀ n list' (i + 1)
+pub all_unlisted : (ns list : List ℕ) (n : ℕ) → 4 * (n + length ns) ≤ length list → ListingAll ns list n list 0
+all_unlisted ns list n room =
+    let e : n ≡ n + 0 = omega arith in
+    record { within = omega arith; room = room; listing = subst (λ (m : ℕ). Listing [] 0 list n list m) e (listing_none list n) }
+
+module _ {ns list₀ : List ℕ} {n : ℕ} {list : List ℕ} {i : ℕ} (s : ListingAll ns list₀ n list i) where
+  pub all_more : {list' : List ℕ} → i < length ns → length list' ≡ length list → list' ≡ placed list (4 * (n + i)) (9 ∷ get_or ns i 0 ∷ 0 ∷ 0 ∷ [])
+      → ListingAll ns list₀ n list' (i + 1)
   all_more {list'} h el e =
       let x = one-listed (get_or ns i 0) list list' (n + i) e in
       let g = listing_more s.listing (omega (arith, s.room)) (send_ack (get_or ns i 0) ∷ []) (omega arith) el x in
       let em : n + i + 1 ≡ n + (i + 1) = omega arith in
-      let ee : map send_ack (take i ns) ++ (send_ack (get_or ns i 0) ∷ []) ≡ map send_ack (take (i + 1) ns) = sym (all-next ns i (omega (arith, s.full, s.few))) in
+      let ee : map send_ack (take i ns) ++ (send_ack (get_or ns i 0) ∷ []) ≡ map send_ack (take (i + 1) ns) = sym (all-next ns i h) in
+      record { within = omega arith; room = s.room; listing = rw (← em, ← ee) g }
+
+  pub all_listed : length ns ≤ i → Listed (map send_ack ns) list₀ n list (n + length ns)
+  all_listed h =
+      let e : i ≡ length ns = omega (arith, s.within) in
+      subst (λ (l : List ℕ). Listed (map send_ack l) list₀ n list (n + length ns)) (take-length ns) (subst (λ (j : ℕ). Listed (map send_ack (take j ns)) list₀ n list (n + j)) e s.listing.listed)
+
+-- ---- the numbers in use, as a run that has changed in place
+
+module _ (v : Numbers) (run : List ℕ) (few : v.count ≤ 512) (full : length v.values ≡ 512) (same : length run ≡ length (in_use v)) where
+  size : length (in_use v) ≡ v.count
+  size = length-take-le v.count v.values (omega arith)
+
+  pub leads_hold : {ns : List ℕ} {k : ℕ} → Leads ns k run → Holds ns (record { values = run ++ drop v.count v.values; count = k })
+  leads_hold {ns} {k} s =
+      let within : k ≤ length run = omega (arith, s.count, simp length-take at (ap length s.held)) in
       record {
-        within = omega arith;
-        room = s.room;
-        full = s.full;
-        few = s.few;
-        listing = rw (← em, ← ee) g;
+        count = s.count;
+        held = take-append-le k run (drop v.count v.values) within ∙ s.held;
+        exact = record { full = simp (length-append, length-drop) (omega (arith, size)); few = omega (arith, size) };
       }
 
-  pub all_listed : count ≤ i → Listed (map send_ack (take count ns)) list₀ n list (n + count)
-  all_listed h =
-      let e : i ≡ count = omega (arith, s.within) in
-      subst (λ (j : ℕ). Listed (map send_ack (take j ns)) list₀ n list (n + j)) e s.listing.listed
-
-pub all_unlisted : (ns : List ℕ) (count : ℕ) (list : List ℕ) (n : ℕ) → 4 * (n + count) ≤ length list → length ns ≡ 512 → count ≤ 512 → ListingAll ns count list n list 0
-all_unlisted ns count list n room full few =
-    let e : n ≡ n + 0 = omega arith in
-    record {
-      within = omega arith;
-      room = room;
-      full = full;
-      few = few;
-      listing = subst (λ (m : ℕ). Listing [] 0 list n list m) e (listing_none list n);
-    }
+  pub released_acks : {upto n : ℕ} {l l' : List ℕ} {r : ReleasedRun} → ReleasesRun upto (in_use v) l n run r l'
+      → ReleasesAcks upto v l n (record { numbers = record { values = run ++ drop v.count v.values; count = r.count }; events = r.events }) l'
+  released_acks s = record { holds = leads_hold s.leads; few = omega (arith, size, s.few); listed = s.listed }

@@ -7,6 +7,7 @@ use Rattle.rules.specs.Events.{send_ack}
 use Rattle.events.specs.Written.{Listed}
 use Rattle.numbers.specs.declared.Numbers.{Numbers}
 use Rattle.numbers.specs.declared.Released.{Released}
+use Rattle.numbers.specs.declared.ReleasedRun.{ReleasedRun}
 
 -- entries past the count are no part of the set
 abbrev pub in_use : Numbers → List ℕ
@@ -33,7 +34,18 @@ seat_of n ns = front (under n) ns
 abbrev pub step : Bool → ℕ
 step t = if t then 1 else 0
 
--- what a commit releases: acks up to a number are listed, later ones stay
+-- the numbers ns lead a run, and there are k of them
+pub record Leads (ns : List ℕ) (k : ℕ) (run : List ℕ) : Type 0 where
+  pub count : k ≡ length ns
+  pub held : take k run ≡ ns
+
+-- what a commit releases of a run: acks up to a number are listed, later ones stay
+pub record ReleasesRun (upto : ℕ) (run l : List ℕ) (n : ℕ) (run' : List ℕ) (r : ReleasedRun) (l' : List ℕ) : Type 0 where
+  pub leads : Leads (kept (ltb upto) run) r.count run'
+  pub few : r.events ≤ n + length run
+  pub listed : Listed (map send_ack (kept (releases_ack upto) run)) l n l' r.events
+
+-- and what of a set
 pub record ReleasesAcks (upto : ℕ) (v : Numbers) (l : List ℕ) (n : ℕ) (r : Released) (l' : List ℕ) : Type 0 where
   pub holds : Holds (kept (ltb upto) (in_use v)) r.numbers
   pub few : r.events ≤ n + v.count

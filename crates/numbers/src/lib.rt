@@ -9,7 +9,7 @@ ghost use Rattle.rules.specs.Commits.{releases_ack};
 ghost use Rattle.rules.specs.Events.{send_ack};
 ghost use Rattle.rules.specs.Sound.{at_most, ascending};
 ghost use Rattle.events.specs.Written.{Listed};
-ghost use Rattle.numbers.specs.Seats.{in_use, seat_of, Holds, ReleasesAcks};
+ghost use Rattle.numbers.specs.Seats.{in_use, seat_of, Holds, Leads, ReleasesRun, ReleasesAcks};
 
 use rules::EventCode;
 
@@ -28,9 +28,95 @@ pub struct Released {
     pub events: usize,
 }
 
+// How many numbers of a run stay, with the count of events listed so far.
+#[derive(Clone, Copy)]
+pub struct ReleasedRun {
+    pub count: usize,
+    pub events: usize,
+}
+
+// ---- a run of numbers, in a set or in the words of a session
+
+// Whether the numbers of a run are above last and strictly rising.
+pub fn run_rises(run: &[u64], last: u64) -> bool
+    ensures { result ≡ rising itself last run.now }
+{
+    let mut top = last;
+    for &x in run {
+        if x <= top {
+            return false;
+        }
+        top = x;
+    }
+    true
+}
+
+// Whether the numbers of a run are strictly rising, from any first one on.
+pub fn run_ascends(run: &[u64]) -> bool
+    ensures { result ≡ ascending run.now }
+{
+    match run {
+        [] => true,
+        [first, rest @ ..] => run_rises(rest, *first),
+    }
+}
+
+// Moves the numbers of a run that are not n to its front, and counts them.
+pub fn drop_from_run(run: &mut [u64], n: u64) -> usize
+    ensures { Leads (kept (differs_from n) run.old) result run.new }
+{
+    let mut k = 0;
+    for i in 0..run.len() {
+        let x = run[i];
+        run[k] = x;
+        k += usize::from(x != n);
+    }
+    k
+}
+
+// Lists a number that a commit up to upto releases.
+pub fn list_one(upto: u64, x: u64, list: &mut [u64], n: usize) -> usize
+    requires { 4 * n + 4 ≤ length list.old }
+    ensures { Listed (map send_ack (kept (releases_ack upto) (x ∷ []))) list.old n list.new result }
+{
+    if x <= upto {
+        events::emit(list, n, EventCode::SendAck as u64, x, 0, 0);
+        return n + 1;
+    }
+    n
+}
+
+// The numbers of a run up to upto are listed by code 9, from event number n on; the later ones move to its front.
+pub fn release_run(run: &mut [u64], upto: u64, list: &mut [u64], n: usize) -> ReleasedRun
+    requires { 4 * (n + length run.old) ≤ length list.old }
+    ensures { ReleasesRun upto run.old list.old n run.new result list.new }
+{
+    let mut events = n;
+    let mut count = 0;
+    for i in 0..run.len() {
+        let x = run[i];
+        run[count] = x;
+        count += usize::from(upto < x);
+        events = list_one(upto, x, list, events);
+    }
+    ReleasedRun { count, events }
+}
+
+// Lists each number of a run by code 9, from event number n on.
+pub fn list_run(run: &[u64], list: &mut [u64], n: usize) -> usize
+    requires { 4 * (n + length run.now) ≤ length list.old }
+    ensures listed { Listed (map send_ack run.now) list.old n list.new result }
+    ensures count { result ≡ n + length run.now }
+{
+    for (i, &x) in run.iter().enumerate() {
+        events::emit(list, n + i, EventCode::SendAck as u64, x, 0, 0);
+    }
+    n + run.len()
+}
+
 // ---- asked
 
-// Whether a number is in use.
+// Whether a number is in use. Stays beside `link_numbers::has`: one library call in each.
 pub fn has(v: Numbers, n: u64) -> bool
     requires { v.count ≤ 512 }
     ensures { result ≡ has n (in_use v) }
@@ -43,14 +129,7 @@ pub fn rises(v: Numbers, from: usize, last: u64) -> bool
     requires { (from ≤ v.count) × (v.count ≤ 512) }
     ensures { result ≡ rising itself last (slice from v.count v.values) }
 {
-    let mut top = last;
-    for &x in &v.values[from..v.count] {
-        if x <= top {
-            return false;
-        }
-        top = x;
-    }
-    true
+    run_rises(&v.values[from..v.count], last)
 }
 
 // Whether no number is above limit.
@@ -66,11 +145,7 @@ pub fn ascends(v: Numbers) -> bool
     requires { v.count ≤ 512 }
     ensures { result ≡ ascending (in_use v) }
 {
-    if v.count == 0 {
-        return true;
-    }
-    let first = v.values[0];
-    rises(v, 1, first)
+    run_ascends(&v.values[..v.count])
 }
 
 // ---- put
@@ -117,25 +192,8 @@ pub fn take_out(v: Numbers, n: u64) -> Numbers
     ensures { Holds (kept (differs_from n) (in_use v)) result }
 {
     let mut values = v.values;
-    let mut k = 0;
-    for i in 0..v.count {
-        let x = values[i];
-        values[k] = x;
-        k += usize::from(x != n);
-    }
-    Numbers { values, count: k }
-}
-
-// Lists a number that a commit up to upto releases.
-pub fn list_one(upto: u64, x: u64, list: &mut [u64], n: usize) -> usize
-    requires { 4 * n + 4 ≤ length list.old }
-    ensures { Listed (map send_ack (kept (releases_ack upto) (x ∷ []))) list.old n list.new result }
-{
-    if x <= upto {
-        events::emit(list, n, EventCode::SendAck as u64, x, 0, 0);
-        return n + 1;
-    }
-    n
+    let count = drop_from_run(&mut values[..v.count], n);
+    Numbers { values, count }
 }
 
 // The numbers up to upto are listed by code 9, from event number n on; the later ones stay.
@@ -144,16 +202,14 @@ pub fn release(v: Numbers, upto: u64, list: &mut [u64], n: usize) -> Released
     ensures { ReleasesAcks upto v list.old n result list.new }
 {
     let mut values = v.values;
-    let mut events = n;
-    let mut k = 0;
-    for i in 0..v.count {
-        let x = values[i];
-        values[k] = x;
-        k += usize::from(upto < x);
-        events = list_one(upto, x, list, events);
+    let left = release_run(&mut values[..v.count], upto, list, n);
+    Released {
+        numbers: Numbers {
+            values,
+            count: left.count,
+        },
+        events: left.events,
     }
-    let numbers = Numbers { values, count: k };
-    Released { numbers, events }
 }
 
 // Lists each number by code 9, from event number n on.
@@ -162,8 +218,5 @@ pub fn list_all(v: Numbers, list: &mut [u64], n: usize) -> usize
     ensures listed { Listed (map send_ack (in_use v)) list.old n list.new result }
     ensures count { result ≡ n + v.count }
 {
-    for (i, &x) in v.values[..v.count].iter().enumerate() {
-        events::emit(list, n + i, EventCode::SendAck as u64, x, 0, 0);
-    }
-    n + v.count
+    list_run(&v.values[..v.count], list, n)
 }

@@ -1,8 +1,7 @@
-use mathlib.Core.Path.{sym, ◌∙◌}
-use native.Mathlib.Omega.{arith}
-use Rattle.link_numbers.proofs.Asked.{ascends_some}
+use mathlib.Core.Path.{ap, ◌∙◌}
+use Rattle.rules.specs.Sound.{ascending}
+use Rattle.link_numbers.proofs.Asked.{run_is}
 use Rattle.link_numbers.proofs.ascends.Goals as goal
 
 pub returns : goal.returns
-returns c =
-    c.rises.ensures ∙ sym (ascends_some c.args.from c.args.words.now c.args.count (omega arith) (omega arith) c.if-count-eq0.false)
+returns c = c.run_ascends.ensures ∙ ap ascending (run_is c.args.from c.args.count c.args.words.now c.requires.few)

@@ -1,6 +1,10 @@
-use mathlib.Core.Path.{◌∙◌}
-use Rattle.link_numbers.proofs.Asked.{has_in}
+use mathlib.Core.Path.{ap, ◌∙◌}
+use Rattle.stores.proofs.Words.{any-list, eqb_flip}
+use Rattle.rules.specs.Lists.{has}
+use Rattle.link_numbers.proofs.Asked.{run_is}
 use Rattle.link_numbers.proofs.has.Goals as goal
 
 pub returns : goal.returns
-returns c = c.contains.ensures.value ∙ has_in c.args.from c.args.count c.args.words.now c.args.n c.requires.few
+unfolding has
+returns c =
+    c.contains.ensures.value ∙ any-list _ _ (λ x. eqb_flip x c.args.n) _ ∙ ap (has c.args.n) (run_is c.args.from c.args.count c.args.words.now c.requires.few)

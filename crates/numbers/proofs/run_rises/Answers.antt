@@ -1,13 +1,8 @@
 use native.Mathlib.Omega.{arith}
-use mathlib.Core.Path.{sym, ap, ◌∙◌}
-use lib.Seq.{take-length}
-use Rattle.rules.specs.Lists.{rising, itself}
-use Rattle.stores.proofs.Packs.{drop-take}
+use mathlib.Core.Path.{sym, ◌∙◌}
+use Rattle.rules.specs.Lists.{itself}
 use Rattle.stores.proofs.Scans.{rises-on, rises_not, rises-none}
-use Rattle.numbers.proofs.rises.Goals as goal
-
-pub loop-x-init : goal.loop-x-init
-loop-x-init c = ap (rising itself c.args.last) (take-length _ ∙ sym (drop-take c.args.from c.args.v.count c.args.v.values))
+use Rattle.numbers.proofs.run_rises.Goals as goal
 
 pub returns-then-x-top : goal.returns-then-x-top
 returns-then-x-top c = sym (rises_not itself _ c.loop-x.x-index _ 0 c.loop-x-test.true (omega arith) c.loop-x.top c.if-x-top.true) ∙ c.loop-x.invariant
