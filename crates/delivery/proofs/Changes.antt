@@ -93,9 +93,6 @@ module _ (n : ℕ) (x : Bytes) (us : List R.Unacked) where
   sent-one false true e f = absurd (true≢false f)
   sent-one false false e f = refl
 
-outbox_cong : {a b : ℕ} {us vs : List R.Unacked} → a ≡ b → us ≡ vs → ◌≡◌ {A = R.Outbox} (record { next = a; unacked = us }) (record { next = b; unacked = vs })
-outbox_cong p q = cc
-
 -- ---- turns
 
 abbrev raised-clock : Clock → Clock
@@ -192,7 +189,7 @@ module _ (t : Turn) where
                 ∙ allocate-goes x 4 (during s fs ws t) (ap (ltb 4294967295) (number s u) ∙ le-ltb 4294967295 t.next k)
                 (alone-fits (acted t.sent t.dropped n x us) x none u.reject)
                 ∙ ap (λ (o : R.Outbox). stays (raised (disposition_is 4 (record { outbox = o; inbox = (during s fs ws t).inbox; clock = t.clock; stage = (during s fs ws t).stage; fixed = s.fixed }))))
-                (outbox_cong (sent-next n x us t.sent i.sent_not) (sent-one n x us t.sent t.dropped i.sent_not i.dropped_not))
+                (cc (sent-next n x us t.sent i.sent_not, sent-one n x us t.sent t.dropped i.sent_not i.dropped_not))
                 ∙ ap (λ (d : ℕ). stays (during s fs ws (acting t (raised-clock t.clock) d true true t.dropped))) (sym h);
             under = λ s u.
                 let i : Idle s.outbox.next s.fixed.reject s.outbox.unacked t.sent t.dropped = still s u in

@@ -17,14 +17,12 @@ use Rattle.rules.specs.State.{State, body_of, frame_body, is_channel, queue_is, 
 use Rattle.rules.specs.Events.{Event, failure, handed, listed}
 use Rattle.rules.specs.Progress.{Progress, goes, stops, broken, failing, forgiven}
 use Rattle.rules.specs.Buffers.{flat, repacked}
-use Rattle.rules.proofs.Lists.{length-packed}
-use Rattle.rules.proofs.Buffers.{repacked-same}
 use Rattle.rules.proofs.Progress.{Leaves}
 use Rattle.events.specs.Written.{ListedIn, Listed, Books, books, write, Within, Final, final, ends}
 use Rattle.events.proofs.Laws.{books_cong, write-append}
 use Rattle.outbox.specs.declared.Outbox.{Outbox}
-use Rattle.outbox.specs.View.{end_u, unacked_of, ExactOutbox}
-use Rattle.outbox.proofs.View.{packed-unacked, exact-total}
+use Rattle.outbox.specs.View.{end_u, unacked_of}
+use Rattle.outbox.proofs.View.{stays-packed}
 use Rattle.queue.specs.declared.Queue.{Queue}
 use Rattle.queue.specs.View.{end_q, frames_of, ExactQueue}
 use Rattle.numbers.specs.declared.Numbers.{Numbers}
@@ -113,10 +111,6 @@ fails x s l n q r m l' q' h e k =
 
 -- ---- on its own, and after a turn
 
-pub same-unacked : (x : Outbox) (o : Bytes) → ExactOutbox x (length o) → o ≡ repacked (end_u x) (packed body_of (unacked_of x o)) o
-same-unacked x o e =
-    sym (repacked-same (end_u x) (packed body_of (unacked_of x o)) o (packed-unacked x o) (length-packed body_of (unacked_of x o) ∙ sym (exact-total x o e)))
-
 module _ {x : Refusal} {s : SessionState} {l : List ℕ} {n : ℕ} {q : Bytes} {r : Ended} {l' : List ℕ} {q' : Bytes} (h : Fails x s l n q r l' q') where
   pub fails_final : (us : List R.Unacked) (p : Progress) (b : Books) (d : Bytes) (at : ℕ) (o : Bytes) (fs : List R.Frame) → Within b
       → final us p b ≡ ends (Some x) (view fs s o) (books l n d at)
@@ -135,7 +129,7 @@ module _ {x : Refusal} {s : SessionState} {l : List ℕ} {n : ℕ} {q : Bytes} {
   fails_stores o e =
       record {
         exact = h.exact (length o) e;
-        outbound = same-unacked s.outbox o e.outbox ∙ ap (λ (z : Outbox). repacked (end_u s.outbox) (packed body_of (unacked_of z o)) o) (sym h.outbox);
+        outbound = stays-packed s.outbox o e.outbox ∙ ap (λ (z : Outbox). repacked (end_u s.outbox) (packed body_of (unacked_of z o)) o) (sym h.outbox);
         queue = emptied;
       }
 

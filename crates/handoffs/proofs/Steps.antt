@@ -28,7 +28,8 @@ use Rattle.peer_session.specs.View.{handoff_of, state_of, Exact}
 use Rattle.session.specs.declared.Returned.{Returned}
 use Rattle.session.specs.Promise.{Turned}
 use Rattle.setup.specs.Steps.{Joins, Asks, Comes}
-use Rattle.setup.proofs.Steps.{stays-packed, turned_is, stopped}
+use Rattle.outbox.proofs.View.{stays-packed}
+use Rattle.setup.proofs.Steps.{turned_is, stopped}
 use Rattle.handoffs.specs.Commands.{commanding, HandsOver}
 
 -- ---- a new handoff

@@ -1,11 +1,11 @@
 -- The two calls of a commit on the parts of a session, test by test. Assumes nothing.
-use Prim.Native.Nat.{ℕ, ◌+◌, ◌-◌, ◌≤◌}
+use Prim.Native.Nat.{ℕ, ◌-◌, ◌≤◌}
 use mathlib.Core.Path.{◌≡◌, refl, ap, ◌∙◌, subst}
 use mathlib.Core.Bool.{Bool, true, false}
 use mathlib.Core.List.{List}
 use native.Mathlib.Omega.{arith}
 use lib.Ieee.{Float}
-use lib.ListN.{length, set, length-set, length-take, length-drop}
+use lib.ListN.{length, set, length-set}
 use Rattle.rules.specs.declared.Answer.TheVariants.{Done, Prepared, Refused}
 use Rattle.rules.specs.declared.Clock.{Clock}
 use Rattle.rules.specs.declared.PreparedCommit.{PreparedCommit}
@@ -23,28 +23,16 @@ use Rattle.commits.specs.Releases.{Persists, ReleasesBy, notices}
 use Rattle.commits.proofs.Completes as C
 use Rattle.parts.specs.declared.LinkAnswer.{LinkAnswer}
 use Rattle.parts.specs.Codes.{answer_of}
-use Rattle.parts.specs.Parts.{parts, at, section, outbox_in, clock_in, opened_of}
+use Rattle.parts.specs.Parts.{parts, at, outbox_in, clock_in, opened_of}
 use Rattle.parts.specs.Driven.{Driven, DrivenAnswer}
 use Rattle.parts.proofs.Fields.{agree_set, outbox-same}
 use Rattle.parts.proofs.After.{agree_all}
 use Rattle.parts.proofs.Drives.{changes, answers}
+use Rattle.link_sound.proofs.Lengths.{words-long, bytes-long}
 use Rattle.link_commits.specs.Completes.{Ready, MayReleaseIn, ReleasesIn}
 use Rattle.link_commits.proofs.Releases.{persisted}
 
 -- ---- complete, past its tests
-
--- arrays of a whole session are long enough
-long-section : (from n : ℕ) (l : List ℕ) → 1 ≤ n → length (section from n l) ≡ n → from + n ≤ length l
-long-section from n l h e = omega (arith, simp (length-take, length-drop) at e)
-
-module _ (w h b : List ℕ) (t : Float) {n : ℕ} {c : PreparedCommit} (ready : Ready (parts w h b t) n c) where
-  pub long-words : 1296 ≤ length w
-  unfolding opened_of
-  long-words = long-section 784 512 w (omega arith) ready.full.retry
-
-  pub long-bytes : 4936 ≤ length b
-  unfolding opened_of
-  long-bytes = long-section 4872 64 b (omega arith) ready.full.reject
 
 module _ (w h b : List ℕ) (t : Float) (l : List ℕ) (c : PreparedCommit) (p : Bool) (ready : Ready (parts w h b t) (length l) c) (k : Clock)
     (persists : Persists p c (clock_in h t) k) where
@@ -56,7 +44,7 @@ module _ (w h b : List ℕ) (t : Float) (l : List ℕ) (c : PreparedCommit) (p :
   raised = set h 770 k.persisted
 
   is : opened_of (parts w raised b t) ≡ clocked k s
-  is = persisted w h b t (long-words w h b t ready) ready.halves (long-bytes w h b t ready) p c k persists
+  is = persisted w h b t (words-long w h b t ready.full) ready.halves (bytes-long w h b t ready.full) p c k persists
 
   pub may : MayReleaseIn w raised b (length l)
   unfolding opened_of
@@ -67,9 +55,9 @@ module _ (w h b : List ℕ) (t : Float) (l : List ℕ) (c : PreparedCommit) (p :
         sound = ap sound_outbox_of e ∙ v.outbox;
         messages = (sound_facts s.outbox v.outbox).few;
         acks = v.waiting;
-        words = long-words w h b t ready;
+        words = words-long w h b t ready.full;
         halves = omega (arith, ready.halves, length-set h 770 k.persisted);
-        bytes = long-bytes w h b t ready;
+        bytes = bytes-long w h b t ready.full;
         room = ready.list;
       }
 

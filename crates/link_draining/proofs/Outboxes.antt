@@ -9,7 +9,7 @@ use lib.Seq.{get_or-set_same, get_or-set_other, length-take-le}
 use Rattle.stores.specs.Placed.{placed}
 use Rattle.rules.specs.Lists.{Bytes, total}
 use Rattle.outbox.specs.declared.Outbox.{Outbox}
-use Rattle.outbox.specs.View.{len_u, end_u, ExactOutbox}
+use Rattle.outbox.specs.View.{len_u, ExactOutbox}
 use Rattle.outbox.specs.Steps.{Left, Room}
 use Rattle.outbox.proofs.Appends.{discarded}
 use Rattle.peer_session.specs.declared.RejectBody.{RejectBody}
@@ -20,9 +20,9 @@ use Rattle.draining.proofs.Settled.{settles_both, settles-sent, settles_dropped,
 use Rattle.parts.specs.Seats.{seats}
 use Rattle.parts.specs.Parts.{at, unacked_at, outbox_in, reject_in}
 use Rattle.parts.specs.Frames.{Past}
-use Rattle.parts.proofs.Seats.{take-seats}
 use Rattle.link_outbox.specs.Steps.{Joins}
 use Rattle.link_outbox.proofs.Records.{past_same, past-set}
+use Rattle.link_outbox.proofs.Sounds.{ends_at}
 use Rattle.link_draining.specs.Steps.{Discards, SettlesIn}
 
 module _ (w h b : List ℕ) (lw : length w ≡ 1296) where
@@ -38,15 +38,11 @@ module _ (w h b : List ℕ) (lw : length w ≡ 1296) where
       let y : at (set w 1 0) 1 ≡ 0 = get_or-set_same w 1 0 0 (omega arith) in
       rw (x, y)
 
-  -- where the bodies end, by the records in use
-  pub ends_at : at w 1 ≤ 256 → total len_u (seats (at w 1) (unacked_at h b)) ≡ end_u (outbox_in w h b)
-  ends_at few = ap (total len_u) (sym (take-seats (at w 1) 256 (unacked_at h b) few))
-
   pub discards : (o o' : Bytes) → ExactOutbox (outbox_in w h b) (length o) → (end : ℕ) → end ≡ total len_u (seats (at w 1) (unacked_at h b))
       → o' ≡ placed o 0 (replicate (end - 0) 0) → Discards w h b o (set w 1 0) o'
   discards o o' exact end ee eo =
       record {
-        left = subst (λ (x : Outbox). Left (outbox_in w h b) o [] x o') (sym emptied) (discarded (outbox_in w h b) o o' exact end (ee ∙ ends_at exact.few) eo);
+        left = subst (λ (x : Outbox). Left (outbox_in w h b) o [] x o') (sym emptied) (discarded (outbox_in w h b) o o' exact end (ee ∙ ends_at w h b exact.few) eo);
         words = past-set (past_same 2 w) 1 0 (omega arith);
       }
 

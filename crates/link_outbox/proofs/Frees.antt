@@ -17,10 +17,11 @@ use Rattle.outbox.proofs.Flags.{release-flags}
 use Rattle.outbox.proofs.Listings.{Listing, listing_none, listing-next, listing-all, listed-starts}
 use Rattle.outbox.proofs.View.{sound_facts}
 use Rattle.parts.specs.Seats.{seats}
-use Rattle.parts.specs.Parts.{at, flag, unacked_at, outbox_in}
+use Rattle.parts.specs.Parts.{at, unacked_at, outbox_in}
 use Rattle.parts.specs.Frames.{Past}
 use Rattle.parts.proofs.Seats.{length-seats, get_d_seats}
-use Rattle.link_outbox.specs.Steps.{Frees, freed, Sends}
+use Rattle.link_outbox.specs.Steps.{Frees, freed}
+use Rattle.outbox.specs.Steps.{SentIf}
 use Rattle.link_outbox.proofs.Records.{by_eq, past_same, twice_low, twice_high, twice_other, past-set, unacked-same, flagged-seats}
 
 pub not_not : (t : Bool) → not (not t) ≡ t
@@ -89,11 +90,11 @@ module _ (w h b : List ℕ) where
 
     -- b' are the flags as they are when the record is looked at
     pub listing-turn : (q : Unacked → Bool) → ((u : Unacked) (s : Bytes) → p (unacked u s) ≡ q u) → (b' : List ℕ) → unacked_at h b' i ≡ unacked_at h b i
-        → (t : Bool) → t ≡ q (unacked_at h b' i) → (l' : List ℕ) (k' : ℕ) → length l' ≡ length l → Sends t (at h i) (at h (256 + i)) from l k l' k'
+        → (t : Bool) → t ≡ q (unacked_at h b' i) → (l' : List ℕ) (k' : ℕ) → length l' ≡ length l → SentIf t (at h i) (at h (256 + i)) from l k l' k'
         → (s : ℕ) → s ≡ at h (256 + i) → Listing p (outbox_in w h b) l₀ n l' k' (from + s) (i + 1)
     listing-turn q agrees b' same t et l' k' el sn s es =
         subst (λ (x : ℕ). Listing p (outbox_in w h b) l₀ n l' k' (from + x) (i + 1)) (sym es)
-        (listing-next g lt q agrees (unacked_at h b' i) (same ∙ is_seat) t et l' k' el (sn (flag (at b' i)) (flag (at b' (256 + i)))))
+        (listing-next g lt q agrees (unacked_at h b' i) (same ∙ is_seat) t et l' k' el sn)
 
   pub frees : {upto : ℕ} {l₀ : List ℕ} {n : ℕ} {l : List ℕ} {k from i : ℕ} {b' : List ℕ} → Freeing upto h b b' i
       → Listing (C.releases upto) (outbox_in w h b) l₀ n l k from i → at w 1 ≤ i → Frees upto w h b l₀ n b' l k

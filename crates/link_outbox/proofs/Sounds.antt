@@ -20,6 +20,7 @@ use Rattle.outbox.specs.declared.Outbox.{Outbox}
 use Rattle.outbox.specs.View.{num_u, len_u, used_u, end_u, blank_u}
 use Rattle.outbox.specs.Sound.{sound_outbox_of}
 use Rattle.outbox.specs.Records.{below_u}
+use Rattle.outbox.proofs.Listings.{rises-above}
 use Rattle.outbox.proofs.View.{SoundU, sound_facts, facts_sound}
 use Rattle.parts.specs.Seats.{seats}
 use Rattle.parts.specs.Parts.{at, unacked_at, outbox_in}
@@ -60,15 +61,6 @@ none-falls last (u ∷ us) h =
     and_both (ltb last u.number) _ (fall-rises last u.number (omega arith)) (none-falls u.number us (omega arith))
 
 -- a number that is before another is below it
-pub rises-above : (last i : ℕ) (us : List Unacked) → rising num_u last us ≡ true → i < length us → last < (get_or us i blank_u).number
-unfolding rising
-rises-above last i [] h k = absurd (omega arith)
-rises-above last zero (u ∷ us) h k = ltb-true last u.number (and_left (ltb last u.number) _ h)
-rises-above last (suc i) (u ∷ us) h k =
-    let l : last < u.number = ltb-true last u.number (and_left (ltb last u.number) _ h) in
-    let r : u.number < (get_or us i blank_u).number = rises-above u.number i us (and_right (ltb last u.number) _ h) (omega arith) in
-    omega arith
-
 pub rises_between : (last i j : ℕ) (us : List Unacked) → rising num_u last us ≡ true → i < j → j < length us → (get_or us i blank_u).number < (get_or us j blank_u).number
 unfolding rising
 rises_between last i j [] h l k = absurd (omega arith)
@@ -218,6 +210,10 @@ module _ (w h b : List ℕ) where
 
 pub take-total : (f : ℕ → Unacked) (n : ℕ) → n ≤ 256 → total len_u (take n (seats 256 f)) ≡ total len_u (seats n f)
 take-total f n h = ap (total len_u) (take-seats n 256 f h)
+
+-- by the records in use
+pub ends_at : (w h b : List ℕ) → at w 1 ≤ 256 → total len_u (seats (at w 1) (unacked_at h b)) ≡ end_u (outbox_in w h b)
+ends_at w h b few = sym (take-total (unacked_at h b) (at w 1) few)
 
 -- flags do not matter
 pub total-same : (n : ℕ) (f g : ℕ → Unacked) → ((i : ℕ) → (f i).len ≡ (g i).len) → total len_u (seats n f) ≡ total len_u (seats n g)

@@ -5,7 +5,7 @@ use Rattle.std.proofs.Math.Seq.{slice}
 use Rattle.rules.specs.Lists.{Bytes, kept, total}
 use Rattle.rules.specs.Acks.{survives, sent}
 use Rattle.outbox.specs.View.{unacked_of, used_u}
-use Rattle.outbox.specs.Steps.{Appended, Left, Flagged, Releases, SentIf}
+use Rattle.outbox.specs.Steps.{Appended, Left, Flagged, Releases}
 use Rattle.parts.specs.Seats.{seats}
 use Rattle.parts.specs.Parts.{at, unacked_at, outbox_in}
 use Rattle.parts.specs.Frames.{Past}
@@ -49,7 +49,3 @@ pub record Shifted (k n : ℕ) (l l' : List ℕ) : Type 0 where
 -- flags of the record at index i as a release leaves them, where it goes
 abbrev pub freed : Bool → ℕ → List ℕ → List ℕ
 freed goes i b = if goes then set (set b i 0) (256 + i) 1 else b
-
--- a record's send is listed where it is to go; flags do not matter
-abbrev pub Sends : Bool → ℕ → ℕ → ℕ → List ℕ → ℕ → List ℕ → ℕ → Type 0
-Sends goes number len at l n l' n' = (p q : Bool) → SentIf goes (record { number = number; len = len; pending = p; unsent = q }) at l n l' n'

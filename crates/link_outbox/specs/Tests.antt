@@ -1,5 +1,5 @@
 -- The unacked messages of a lent session: what a test of them counts, and what a search finds. Assumes nothing.
-use Rattle.std.specs.Prelude.{ℕ, ◌+◌, ◌≤◌, ◌<◌, ◌≡◌, List, [], ◌∷◌, ltb, leb, if◌then◌else◌}
+use Rattle.std.specs.Prelude.{ℕ, ◌+◌, ◌≤◌, ◌<◌, ◌≡◌, List, [], ◌∷◌, ltb, leb, if◌then◌else◌, Option, Some, None}
 use Rattle.rules.specs.Lists.{total}
 use Rattle.outbox.specs.declared.Unacked.{Unacked}
 use Rattle.outbox.specs.View.{len_u}
@@ -33,8 +33,7 @@ pub record Bounded (h : List ℕ) (n : ℕ) : Type 0 where
   pub few : n ≤ 256
   pub small : (b : List ℕ) → total len_u (seats n (unacked_at h b)) ≤ 65536
 
--- the index of a number among n, or n where none is it
-pub record Sought (h : List ℕ) (n number r : ℕ) : Type 0 where
-  pub within : r ≤ n
-  pub found : r < n → at h r ≡ number
-  pub missing : r ≡ n → (i : ℕ) → i < n → at h i ≡ number → ⊥
+-- the index of a number among the first n, if it is there
+abbrev pub Sought : List ℕ → ℕ → ℕ → Option ℕ → Type 0
+Sought h n number (Some i) = (i < n) × (at h i ≡ number)
+Sought h n number None = (i : ℕ) → i < n → at h i ≡ number → ⊥

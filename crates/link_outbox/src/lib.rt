@@ -11,14 +11,15 @@ ghost use Rattle.parts.specs.Parts.{at, flag, outbox_in, unacked_at};
 ghost use Rattle.outbox.specs.View.{used_u, ExactOutbox};
 ghost use Rattle.outbox.specs.Records.{place_u};
 ghost use Rattle.outbox.specs.Steps.{Room, Replays};
-ghost use Rattle.link_outbox.specs.Steps.{Joins, Marks, Frees, Drops, Shifted, Front, freed, Sends};
+ghost use Rattle.link_outbox.specs.Steps.{Joins, Marks, Frees, Drops, Shifted, Front, freed};
 ghost use Rattle.link_outbox.specs.Tests.{falls, Steps, low, stayer, Bounded, Sought};
 
 use outbox::Place;
 use parts::{Bytes, Halves, Words};
-use rules::EventCode;
 
 // ---- whether they are such as calls leave
+
+// Tests stand one a line, as document 01 lists them, each with its return: `&&` over all of them would read no plainer.
 
 // How many numbers after the first are not above the one before them.
 fn falls_of(halves: &Halves, count: usize) -> u32
@@ -146,16 +147,11 @@ pub fn append(
 
 // ---- a report
 
-fn search(halves: &Halves, count: usize, number: u64) -> usize
+fn search(halves: &Halves, count: usize, number: u64) -> Option<usize>
     requires { count ≤ 256 }
     ensures { Sought halves.now count number result }
 {
-    for i in 0..count {
-        if u64::from(halves[i]) == number {
-            return i;
-        }
-    }
-    count
+    halves[..count].iter().position(|&x| u64::from(x) == number)
 }
 
 // Where a number is, if all from the first on are there.
@@ -172,17 +168,17 @@ fn guess(first: u64, number: u64, count: usize) -> usize
     (number - first) as usize
 }
 
-// The index of a number among the first count, or count where it is not among them.
-fn seat(halves: &Halves, count: usize, number: u64) -> usize
+// The index of a number among the first count, if it is there.
+fn seat(halves: &Halves, count: usize, number: u64) -> Option<usize>
     requires { count ≤ 256 }
     ensures { Sought halves.now count number result }
 {
     if count == 0 {
-        return 0;
+        return None;
     }
     let i = guess(u64::from(halves[0]), number, count);
     if u64::from(halves[i]) == number {
-        return i;
+        return Some(i);
     }
     search(halves, count, number)
 }
@@ -193,34 +189,12 @@ pub fn mark_sent(words: &Words, halves: &Halves, bytes: &mut Bytes, number: u64)
     ensures { Marks number words.now halves.now bytes.old bytes.new }
 {
     let count = words[parts::UNACKED] as usize;
-    let i = seat(halves, count, number);
-    if i < count {
+    if let Some(i) = seat(halves, count, number) {
         bytes[parts::UNSENT + i] = 0;
-        return;
     }
 }
 
 // ---- sends are listed
-
-// Lists a send, code 8, as event number n, where it is to go; the body starts at index from. Returns the next event's number. Kept beside outbox's, which
-// takes a record: here only the numbers are there, and a record put together for the call would be no plainer.
-fn send_if(goes: bool, number: u32, len: u32, list: &mut [u64], n: usize, from: usize) -> usize
-    requires { 4 * n + 4 ≤ length list.old }
-    ensures { Sends goes number len from list.old n list.new result }
-{
-    if goes {
-        events::emit(
-            list,
-            n,
-            EventCode::SendData as u64,
-            u64::from(number),
-            from as u64,
-            u64::from(len),
-        );
-        return n + 1;
-    }
-    n
-}
 
 // The record at index i is sent, and unsent until a send is reported.
 fn free_if(goes: bool, bytes: &mut Bytes, i: usize)
@@ -259,7 +233,7 @@ pub fn release(
     for i in 0..count {
         let len = halves[parts::UNACKED_LENS + i];
         let goes = releases(halves[i], bytes[i], upto);
-        let m = send_if(goes, halves[i], len, list, k, from);
+        let m = outbox::send_if(goes, halves[i], len, list, k, from);
         free_if(goes, bytes, i);
         k = m;
         from += len as usize;
@@ -278,7 +252,7 @@ pub fn replay(words: &Words, halves: &Halves, bytes: &Bytes, list: &mut [u64], n
     for i in 0..count {
         let len = halves[parts::UNACKED_LENS + i];
         let goes = bytes[i] == 0;
-        let m = send_if(goes, halves[i], len, list, k, from);
+        let m = outbox::send_if(goes, halves[i], len, list, k, from);
         k = m;
         from += len as usize;
     }
@@ -325,7 +299,8 @@ fn sweep(words: &mut Words, halves: &mut Halves, bytes: &mut Bytes, store: &mut 
 
 // ---- an ack that lets the oldest messages go
 
-// 1 where an acknowledgement leaves a record, else 0: limit is the ack, as far as 32 bits hold it.
+// 1 where an acknowledgement leaves a record, else 0: limit is the ack, as far as 32 bits hold it. No twin of keeps, which gets the whole ack: this one is asked
+// twice of each record, and compares numbers in the 32 bits that they have.
 fn stay_of(number: u32, pending: u8, unsent: u8, limit: u32) -> u32
     ensures { (ack : ℕ) → limit ≡ low ack → result ≡ (if ltb ack number || flag pending || flag unsent then 1 else 0) }
 {
@@ -345,7 +320,7 @@ fn staying(halves: &Halves, bytes: &Bytes, start: usize, count: usize, ack: u64)
     sum
 }
 
-// The n records from index k on move down to index 0.
+// The n records from index k on move down to index 0. No twin of `link_moves::lower`: it is one call of it for each of a record's four sections.
 fn lower_records(halves: &mut Halves, bytes: &mut Bytes, k: usize, n: usize)
     requires { k + n ≤ 256 }
     ensures { Shifted k n halves.old halves.new × Shifted k n bytes.old bytes.new }

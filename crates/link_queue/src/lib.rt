@@ -35,10 +35,7 @@ fn above(words: &Words, number: u64) -> bool
     ensures { result ≡ true → Below number words.now }
 {
     let n = words[parts::QUEUED] as usize;
-    if n == 0 {
-        return true;
-    }
-    words[parts::QUEUED_NUMBERS - 1 + n] < number
+    n == 0 || words[parts::QUEUED_NUMBERS - 1 + n] < number
 }
 
 // Whether a frame of this number is queued. All are looked at, which is quicker than to stop.
@@ -59,10 +56,7 @@ pub fn holds(words: &Words, number: u64) -> bool
     requires { Topped words.now }
     ensures { (h b : List ℕ) (o : Bytes) → result ≡ any (is_frame number) (frames_of (queue_in words.now h b) o) }
 {
-    if above(words, number) {
-        return false;
-    }
-    find(words, number)
+    !above(words, number) && find(words, number)
 }
 
 // How many frames at the front have a number up to this one.
@@ -105,7 +99,7 @@ pub fn join(
     bytes[parts::QUEUED_KINDS + n] = kind;
 }
 
-// The bodies from index from up to index end move up by n bytes.
+// The bodies from index from up to index end move up by n bytes. No twin of `stores::move_run`: that copies them onto themselves where n is 0.
 fn raise_bodies(store: &mut [u8], from: usize, end: usize, n: usize)
     requires { (from ≤ end) × (end + n ≤ length store.old) }
     ensures { store.new ≡ placed store.old (from + n) (take (end - from) (drop from store.old)) }
@@ -173,7 +167,8 @@ pub fn insert(
 
 // ---- taken out
 
-// The bodies from index from up to index end move to the front, and what they leave is cleared.
+// The bodies from index from up to index end move to the front, and what they leave is cleared. No twin of `outbox::lower`: that moves one body and clears
+// nothing.
 fn lower_bodies(store: &mut [u8], from: usize, end: usize)
     requires { (from ≤ end) × (end ≤ length store.old) }
     ensures { store.new ≡ placed (placed store.old 0 (take (end - from) (drop from store.old))) (end - from) (replicate (end - (end - from)) 0) }
@@ -186,7 +181,7 @@ fn lower_bodies(store: &mut [u8], from: usize, end: usize)
     stores::clear(store, n, end);
 }
 
-// All frames go.
+// All frames go. No twin of `stores::clear`, which clears their bodies: the count falls as well. Nor `shed` of all, which would look for the others.
 pub fn clear(words: &mut Words, halves: &Halves, bytes: &Bytes, store: &mut [u8])
     requires { ExactQueue (queue_in words.old halves.now bytes.now) (length store.old) }
     ensures { Requeued [] words.old halves.now bytes.now store.old words.new halves.now bytes.now store.new }

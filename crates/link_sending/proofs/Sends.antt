@@ -10,10 +10,10 @@ use lib.Seq.{get_or-set_same, get_or-set_other}
 use Rattle.rules.specs.declared.Answer.TheVariants.{Number, Refused}
 use Rattle.rules.specs.declared.Refusal.{Refusal}
 use Rattle.rules.specs.declared.Clock.{Clock}
-use Rattle.rules.specs.Lists.{Bytes, total}
+use Rattle.rules.specs.Lists.{Bytes}
 use Rattle.rules.specs.Calls.{sends}
 use Rattle.std.specs.Prelude.{Ok, Err}
-use Rattle.outbox.specs.View.{len_u, end_u, ExactOutbox}
+use Rattle.outbox.specs.View.{ExactOutbox}
 use Rattle.peer_session.specs.Allocates.{Allocates}
 use Rattle.events.specs.Written.{Listed, asked}
 use Rattle.session.specs.Promise.{CalledWithOutbound}
@@ -22,9 +22,7 @@ use Rattle.peer_session.proofs.View as View
 use Rattle.sending.proofs.Sends as S
 use Rattle.parts.specs.declared.LinkAnswer.{LinkAnswer}
 use Rattle.parts.specs.Codes.{answer_of}
-use Rattle.parts.specs.Seats.{seats}
-use Rattle.parts.proofs.Seats.{take-seats}
-use Rattle.parts.specs.Parts.{Parts, parts, at, unacked_at, outbox_in, waiting_in, retry_in, clock_in, handoff_in, opened_of}
+use Rattle.parts.specs.Parts.{Parts, parts, at, outbox_in, waiting_in, retry_in, clock_in, handoff_in, opened_of}
 use Rattle.parts.specs.Driven.{Driven}
 use Rattle.parts.proofs.Fields.{Agree, agree_past, agree_set, agree_then, outbox-same, numbers-same, handoff-same}
 use Rattle.parts.proofs.After.{Kept, other, after, agree_all}
@@ -127,10 +125,6 @@ module _ {body : Bytes} {w h b : List ℕ} {o : Bytes} where
         bytes = j.bytes;
         kept = λ y e. cc;
       }
-
--- where the bodies end, by the records in use
-pub ends_at : (w h b : List ℕ) → at w 1 ≤ 256 → total len_u (seats (at w 1) (unacked_at h b)) ≡ end_u (outbox_in w h b)
-ends_at w h b few = ap (total len_u) (sym (take-seats (at w 1) 256 (unacked_at h b) few))
 
 -- what a message that joins asks
 pub exact-outbox : (w h b : List ℕ) (t : Float) {n : ℕ} (o : Bytes) → Ready (parts w h b t) n (length o) → ExactOutbox (outbox_in w h b) (length o)

@@ -1,4 +1,4 @@
--- How many bytes there are where the session is full. Assumes nothing.
+-- How many words and bytes there are where the session is full. Assumes nothing.
 use Prim.Native.Nat.{ℕ, ◌+◌, ◌≤◌}
 use mathlib.Core.Path.{◌≡◌}
 use mathlib.Core.List.{List}
@@ -12,6 +12,10 @@ section-long : (from n : ℕ) (l : List ℕ) → 1 ≤ n → length (section fro
 section-long from n l one h = omega (arith, simp (length-take, length-drop) at h)
 
 module _ (w h b : List ℕ) (t : Float) (full : Full (opened_of (parts w h b t))) where
+  pub words-long : 1296 ≤ length w
+  unfolding opened_of
+  words-long = omega (arith, section-long 784 512 w (omega arith) full.retry)
+
   pub bytes-long : 4936 ≤ length b
   unfolding opened_of
   bytes-long = omega (arith, section-long 4872 64 b (omega arith) full.reject)

@@ -10,14 +10,14 @@ use Rattle.rules.specs.Lists.{Bytes, total, itself}
 use Rattle.rules.specs.Buffers.{repacked}
 use Rattle.stores.proofs.Runs.{Run, run_none, run_more}
 use Rattle.outbox.specs.declared.Unacked.{Unacked}
-use Rattle.outbox.specs.View.{len_u, blank_u, end_u}
+use Rattle.outbox.specs.View.{blank_u, end_u}
 use Rattle.starts.specs.declared.Reliable.{Reliable}
 use Rattle.starts.specs.Records.{records_of, Fitting, Recorded}
 use Rattle.starts.proofs.Slices.{length-records, record_at}
 use Rattle.parts.specs.Seats.{seats}
 use Rattle.parts.specs.Parts.{at, unacked_at, outbox_in}
 use Rattle.parts.specs.Frames.{Past}
-use Rattle.parts.proofs.Seats.{length-seats, seats-same, take-seats}
+use Rattle.parts.proofs.Seats.{length-seats, seats-same}
 use Rattle.link_outbox.proofs.Records.{past_same, past-set, twice_past, written}
 use Rattle.link_starts.specs.Steps.{Written, TakenIn}
 
@@ -114,7 +114,3 @@ module _ (x : Reliable) (ns ks : List ℕ) (bodies : Bytes) (w h b : List ℕ) (
         bytes = λ i k out. get_or-set_other b' 768 i x.disposition 0 out ∙ g.bytes.same i k;
         disposition = get_or-set_same b' 768 x.disposition 0 (omega (arith, g.bytes.size));
       }
-
--- where the bodies end, by the records in use
-pub ends_at : (w h b : List ℕ) → at w 1 ≤ 256 → total len_u (seats (at w 1) (unacked_at h b)) ≡ end_u (outbox_in w h b)
-ends_at w h b few = ap (total len_u) (sym (take-seats (at w 1) 256 (unacked_at h b) few))

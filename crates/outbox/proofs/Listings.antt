@@ -54,13 +54,13 @@ module _ (us vs : List R.Unacked) (same : (n : ℕ) → start_of n us ≡ start_
 
 -- ---- where the body of the i-th record starts, by its number: numbers rise, so it is the first that has it
 
-above : (last i : ℕ) (us : List Unacked) → rising num_u last us ≡ true → i < length us → last < (get_or us i blank_u).number
+pub rises-above : (last i : ℕ) (us : List Unacked) → rising num_u last us ≡ true → i < length us → last < (get_or us i blank_u).number
 unfolding rising
-above last i [] h k = absurd (omega arith)
-above last zero (u ∷ us) h k = ltb-true last u.number (and_left (ltb last u.number) _ h)
-above last (suc i) (u ∷ us) h k =
+rises-above last i [] h k = absurd (omega arith)
+rises-above last zero (u ∷ us) h k = ltb-true last u.number (and_left (ltb last u.number) _ h)
+rises-above last (suc i) (u ∷ us) h k =
     let l : last < u.number = ltb-true last u.number (and_left (ltb last u.number) _ h) in
-    let r : u.number < (get_or us i blank_u).number = above u.number i us (and_right (ltb last u.number) _ h) (omega arith) in
+    let r : u.number < (get_or us i blank_u).number = rises-above u.number i us (and_right (ltb last u.number) _ h) (omega arith) in
     omega arith
 
 starts-at : (last i : ℕ) (us : List Unacked) (s : Bytes) → rising num_u last us ≡ true → i < length us → total len_u us ≤ length s
@@ -70,7 +70,7 @@ starts-at last i [] s h k room = absurd (omega arith)
 starts-at last zero (u ∷ us) s h k room = rw (eq-eqb u.number u.number refl)
 starts-at last (suc i) (u ∷ us) s h k room =
     let hs : rising num_u u.number us ≡ true = and_right (ltb last u.number) _ h in
-    let a : u.number < (get_or us i blank_u).number = above u.number i us hs (omega arith) in
+    let a : u.number < (get_or us i blank_u).number = rises-above u.number i us hs (omega arith) in
     let lt : length (take u.len s) ≡ u.len = length-take-le u.len s (omega arith) in
     let ld : length (drop u.len s) ≡ length s - u.len = length-drop u.len s in
     let r : before size_of (is_number (get_or us i blank_u).number) (cut len_u unacked us (drop u.len s)) ≡ total len_u (take i us) =
@@ -96,7 +96,7 @@ one_kept : (p : R.Unacked → Bool) (m : R.Unacked) (t : Bool) → p m ≡ t →
 unfolding kept
 one_kept p m t e = ap (λ (b : Bool). if b then (m ∷ []) else []) e
 
-sent-one : (us : List R.Unacked) (t : Bool) (u : Unacked) (b : Bytes) (at : ℕ) (l l' : List ℕ) (n n' : ℕ) → SentIf t u at l n l' n'
+sent-one : (us : List R.Unacked) (t : Bool) (u : Unacked) (b : Bytes) (at : ℕ) (l l' : List ℕ) (n n' : ℕ) → SentIf t u.number u.len at l n l' n'
     → start_of u.number us ≡ at → length b ≡ u.len → ListedIn us (map data_frame (if t then (unacked u b ∷ []) else [])) l n l' n'
 unfolding flat listed
 sent-one us true u b at l l' n n' s e k =
@@ -109,16 +109,13 @@ sent-one us true u b at l l' n n' s e k =
 sent-one us false u b at l l' n n' s e k = record { count = s.count; words = λ a. s.words }
 
 -- as code makes it
-module _ (u : Unacked) (at : ℕ) (l : List ℕ) where
-  pub sends : (l' : List ℕ) (n : ℕ) (t : Bool) → t ≡ true → l' ≡ placed l (4 * n) (8 ∷ u.number ∷ at ∷ u.len ∷ []) → SentIf t u at l n l' (n + 1)
-  sends l' n t e el = subst⁻¹ (λ (b : Bool). SentIf b u at l n l' (n + 1)) e (record { count = refl; words = el })
+pub sends_not : (number len at : ℕ) (l : List ℕ) (n : ℕ) (t : Bool) → t ≡ false → SentIf t number len at l n l n
+sends_not number len at l n t e =
+    subst⁻¹ (λ (b : Bool). SentIf b number len at l n l n) e (record { count = sym (add-zero n); words = sym (placed-none l (4 * n)) })
 
-  pub sends_not : (n : ℕ) (t : Bool) → t ≡ false → SentIf t u at l n l n
-  sends_not n t e = subst⁻¹ (λ (b : Bool). SentIf b u at l n l n) e (record { count = sym (add-zero n); words = sym (placed-none l (4 * n)) })
-
-pub sent-few : (t : Bool) (u : Unacked) (at : ℕ) (l l' : List ℕ) (n n' : ℕ) → SentIf t u at l n l' n' → n' ≤ n + 1
-sent-few true u at l l' n n' s = omega (arith, s.count)
-sent-few false u at l l' n n' s = omega (arith, s.count)
+sent-few : (t : Bool) (number len at : ℕ) (l l' : List ℕ) (n n' : ℕ) → SentIf t number len at l n l' n' → n' ≤ n + 1
+sent-few true number len at l l' n n' s = omega (arith, s.count)
+sent-few false number len at l l' n n' s = omega (arith, s.count)
 
 -- ---- What a loop keeps that lists the sends of the records that pass p: those before index i are listed, the body of the next starts at at
 
@@ -149,7 +146,7 @@ listing_none p x l n s full room =
 
 module _ {p : R.Unacked → Bool} {x : Outbox} {l₀ : List ℕ} {n : ℕ} {l : List ℕ} {k at i : ℕ} (g : Listing p x l₀ n l k at i) where
   module _ (h : i < x.count) (q : Unacked → Bool) (agrees : (u : Unacked) (b : Bytes) → p (unacked u b) ≡ q u) where
-    listing-words : (l' : List ℕ) (k' : ℕ) → SentIf (q (get_or x.records i blank_u)) (get_or x.records i blank_u) at l k l' k' → (o : Bytes) → end_u x ≤ length o
+    listing-words : (l' : List ℕ) (k' : ℕ) → SentIf (q (get_or x.records i blank_u)) (get_or x.records i blank_u).number (get_or x.records i blank_u).len at l k l' k' → (o : Bytes) → end_u x ≤ length o
         → ListedIn (unacked_of x o) (map data_frame (kept p (take (i + 1) (unacked_of x o)))) l₀ n l' k'
     unfolding unacked_of start_of
     listing-words l' k' s o e =
@@ -178,7 +175,7 @@ module _ {p : R.Unacked → Bool} {x : Outbox} {l₀ : List ℕ} {n : ℕ} {l : 
         subst⁻¹ (λ (es : List Event). ListedIn ms es l₀ n l' k') evs
         (listed_then (omega (arith, g.room)) (g.words o e) (sent-one ms (q u) u b at l l' k k' s st lb))
 
-    pub listing_more : (l' : List ℕ) (k' : ℕ) → length l' ≡ length l → SentIf (q (get_or x.records i blank_u)) (get_or x.records i blank_u) at l k l' k'
+    pub listing_more : (l' : List ℕ) (k' : ℕ) → length l' ≡ length l → SentIf (q (get_or x.records i blank_u)) (get_or x.records i blank_u).number (get_or x.records i blank_u).len at l k l' k'
         → Listing p x l₀ n l' k' (at + (get_or x.records i blank_u).len) (i + 1)
     listing_more l' k' el s =
         record {
@@ -187,17 +184,18 @@ module _ {p : R.Unacked → Bool} {x : Outbox} {l₀ : List ℕ} {n : ℕ} {l : 
           room = g.room;
           same = el ∙ g.same;
           within = omega arith;
-          few = omega (arith, g.few, sent-few (q (get_or x.records i blank_u)) (get_or x.records i blank_u) at l l' k k' s);
+          few = omega (arith, g.few, sent-few (q (get_or x.records i blank_u)) (get_or x.records i blank_u).number (get_or x.records i blank_u).len at l l' k k' s);
           start = omega (arith, g.start, total-step len_u x.records i x.count blank_u h (omega (arith, g.full, g.sound.few)));
           words = listing-words l' k' s;
         }
 
     -- the same, of a record and a test that a call answered
-    pub listing-next : (u : Unacked) → u ≡ get_or x.records i blank_u → (t : Bool) → t ≡ q u → (l' : List ℕ) (k' : ℕ) → length l' ≡ length l → SentIf t u at l k l' k'
+    pub listing-next : (u : Unacked) → u ≡ get_or x.records i blank_u → (t : Bool) → t ≡ q u → (l' : List ℕ) (k' : ℕ) → length l' ≡ length l → SentIf t u.number u.len at l k l' k'
         → Listing p x l₀ n l' k' (at + u.len) (i + 1)
     listing-next u eu t et l' k' el s =
-        let s1 : SentIf (q u) u at l k l' k' = subst (λ (b : Bool). SentIf b u at l k l' k') et s in
-        let s2 : SentIf (q (get_or x.records i blank_u)) (get_or x.records i blank_u) at l k l' k' = subst (λ (v : Unacked). SentIf (q v) v at l k l' k') eu s1 in
+        let s1 : SentIf (q u) u.number u.len at l k l' k' = subst (λ (b : Bool). SentIf b u.number u.len at l k l' k') et s in
+        let s2 : SentIf (q (get_or x.records i blank_u)) (get_or x.records i blank_u).number (get_or x.records i blank_u).len at l k l' k' =
+        subst (λ (v : Unacked). SentIf (q v) v.number v.len at l k l' k') eu s1 in
         subst⁻¹ (λ (v : Unacked). Listing p x l₀ n l' k' (at + v.len) (i + 1)) eu (listing_more l' k' el s2)
 
   -- all are listed

@@ -10,6 +10,8 @@ use lib.Dec.{leb, ltb}
 use borrow.Author.Tests.{le-leb, leb-true}
 use Rattle.stores.specs.Packed.{cut}
 use Rattle.stores.proofs.Packs.{Packing, cut-packed, map-cut, length_cut, packed-cut, cut-same}
+use Rattle.rules.specs.Buffers.{repacked}
+use Rattle.rules.proofs.Buffers.{repacked-same}
 use Rattle.rules.specs.Lists.{Bytes, all, total, packed, rising}
 use Rattle.rules.specs.State as R
 use Rattle.rules.specs.State.{number_of, size_of, body_of}
@@ -61,6 +63,11 @@ total-cut (u ∷ us) s h =
 pub packed-unacked : (x : Outbox) (o : Bytes) → packed body_of (unacked_of x o) ≡ take (end_u x) o
 unfolding unacked_of
 packed-unacked x o = packed-cut len_u unacked body_of (λ u b. refl) (used_u x) o
+
+-- a store whose bodies stay is as it was
+pub stays-packed : (x : Outbox) (o : Bytes) → ExactOutbox x (length o) → o ≡ repacked (end_u x) (packed body_of (unacked_of x o)) o
+stays-packed x o e =
+    sym (repacked-same (end_u x) (packed body_of (unacked_of x o)) o (packed-unacked x o) (ap length (packed-unacked x o) ∙ length-take-le (end_u x) o (omega (arith, e))))
 
 -- bytes past the bodies do not matter
 pub unacked-only : (x : Outbox) (s t : Bytes) → end_u x ≤ length s → end_u x ≤ length t → take (end_u x) s ≡ take (end_u x) t → unacked_of x s ≡ unacked_of x t

@@ -9,7 +9,6 @@ use Rattle.rules.specs.Sending.{fresh}
 use Rattle.rules.specs.Commits.{releases, release, data_frame}
 use Rattle.rules.specs.Replay.{not_pending}
 use Rattle.events.specs.Written.{ListedIn}
-use Rattle.outbox.specs.declared.Unacked.{Unacked}
 use Rattle.outbox.specs.declared.Outbox.{Outbox}
 use Rattle.outbox.specs.declared.Released.{Released}
 use Rattle.outbox.specs.View.{end_u, unacked_of, ExactOutbox}
@@ -46,10 +45,10 @@ pub record Flagged (f : R.Unacked → R.Unacked) (x : Outbox) (r : Outbox) : Typ
   pub exact : (size : ℕ) → ExactOutbox x size → ExactOutbox r size
   pub unacked : (o : Bytes) → end_u x ≤ length o → unacked_of r o ≡ map f (unacked_of x o)
 
--- one record's send is listed where it is to go: code 8 with its number, where its body starts, and its length
-pub record SentIf (goes : Bool) (u : Unacked) (at : ℕ) (l : List ℕ) (n : ℕ) (l' : List ℕ) (n' : ℕ) : Type 0 where
+-- a send is listed where it is to go: code 8 with the message's number, where its body starts, and how long it is
+pub record SentIf (goes : Bool) (number len at : ℕ) (l : List ℕ) (n : ℕ) (l' : List ℕ) (n' : ℕ) : Type 0 where
   pub count : n' ≡ n + (if goes then 1 else 0)
-  pub words : l' ≡ placed l (4 * n) (if goes then (8 ∷ u.number ∷ at ∷ u.len ∷ []) else [])
+  pub words : l' ≡ placed l (4 * n) (if goes then (8 ∷ number ∷ at ∷ len ∷ []) else [])
 
 -- what a commit releases: sends are listed, by rising number
 pub record Releases (upto : ℕ) (x : Outbox) (l : List ℕ) (n : ℕ) (r : Released) (l' : List ℕ) : Type 0 where

@@ -132,17 +132,10 @@ pub fn append(o: Outbox, store: &mut [u8], at: usize, body: &[u8]) -> Outbox
 pub fn keeps(u: Unacked, ack: u64) -> bool
     ensures { result ≡ survives_u ack u }
 {
-    let n = u64::from(u.number);
-    if ack < n {
-        return true;
-    }
-    if u.pending {
-        return true;
-    }
-    u.unsent
+    ack < u64::from(u.number) || u.pending || u.unsent
 }
 
-// Moves a body down; one that is in its place is not touched.
+// Moves a body down. No twin of `stores::move_run`: that copies a body that is in its place onto itself, and here it is not touched.
 fn lower(store: &mut [u8], to: usize, from: usize, n: usize)
     requires { (to ≤ from) × (from + n ≤ length store.old) }
     ensures { store.new ≡ placed store.old to (take n (drop from store.old)) }
@@ -202,19 +195,19 @@ pub fn discard(o: Outbox, store: &mut [u8]) -> Outbox
 
 // ---- sends are listed
 
-// Lists the send of a record, code 8, as event number n, where it is to go; its body starts at index at. Returns the next event's number.
-fn send_if(goes: bool, u: Unacked, list: &mut [u64], n: usize, at: usize) -> usize
+// Lists a send, code 8, as event number n, where it is to go; the body has len bytes from index at on. Returns the next event's number.
+pub fn send_if(goes: bool, number: u32, len: u32, list: &mut [u64], n: usize, at: usize) -> usize
     requires { 4 * n + 4 ≤ length list.old }
-    ensures { SentIf goes u at list.old n list.new result }
+    ensures { SentIf goes number len at list.old n list.new result }
 {
     if goes {
         events::emit(
             list,
             n,
             EventCode::SendData as u64,
-            u64::from(u.number),
+            u64::from(number),
             at as u64,
-            u64::from(u.len),
+            u64::from(len),
         );
         return n + 1;
     }
@@ -225,11 +218,7 @@ fn send_if(goes: bool, u: Unacked, list: &mut [u64], n: usize, at: usize) -> usi
 pub fn releases(u: Unacked, upto: u64) -> bool
     ensures { result ≡ releases_u upto u }
 {
-    let n = u64::from(u.number);
-    if !u.pending {
-        return false;
-    }
-    n <= upto
+    u.pending && u64::from(u.number) <= upto
 }
 
 // A record after a release.
@@ -256,7 +245,7 @@ pub fn release(o: Outbox, upto: u64, list: &mut [u64], n: usize) -> Released
     for i in 0..o.count {
         let u = outbox.records[i];
         let goes = releases(u, upto);
-        events = send_if(goes, u, list, events, at);
+        events = send_if(goes, u.number, u.len, list, events, at);
         outbox.records[i] = release_one(goes, u);
         at += u.len as usize;
     }
@@ -271,7 +260,7 @@ pub fn replay(o: Outbox, list: &mut [u64], n: usize) -> usize
     let mut events = n;
     let mut at = 0;
     for &u in &o.records[..o.count] {
-        events = send_if(!u.pending, u, list, events, at);
+        events = send_if(!u.pending, u.number, u.len, list, events, at);
         at += u.len as usize;
     }
     events

@@ -182,7 +182,7 @@ pub fn drop_front(q: Queue, store: &mut [u8], k: usize) -> Queue
     }
 }
 
-// All frames go.
+// All frames go. It is drop_front of all; kept, since its promise says that none is left, which its callers would have to derive.
 pub fn clear(q: Queue, store: &mut [u8]) -> Queue
     requires { ExactQueue q (length store.old) }
     ensures { Repacked q store.old [] result store.new }

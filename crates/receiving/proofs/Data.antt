@@ -39,7 +39,8 @@ use Rattle.draining.specs.Ends.{Stores, Fails}
 use Rattle.receiving.specs.Checks.{verdict_of, again, anew, ruled, reached, Checked, Acknowledges, Acknowledging, Receiving, Anew}
 use Rattle.draining.specs.Arrived.{Arrived}
 use Rattle.receiving.specs.Calls.{returned}
-use Rattle.draining.proofs.Failing.{same-unacked, failing-goes, fails_final, fails_stores}
+use Rattle.outbox.proofs.View.{stays-packed}
+use Rattle.draining.proofs.Failing.{failing-goes, fails_final, fails_stores}
 use Rattle.receiving.proofs.Checks.{as_ruled, as_reached, new-frame, old_frame}
 use Rattle.draining.proofs.Failing.{fresh-books}
 use Rattle.draining.proofs.Calls as Calls
@@ -118,7 +119,7 @@ module _ (status : HostStatus) (f : Frame) (s : SessionState) (l : List ℕ) (d 
     kept-stores {y} h =
         record {
           exact = h.exact (length o) (length q) exact;
-          outbound = same-unacked s.outbox o exact.outbox ∙ ap (λ (z : Outbox). repacked (end_u s.outbox) (packed body_of (unacked_of z o)) o) (sym h.outbox);
+          outbound = stays-packed s.outbox o exact.outbox ∙ ap (λ (z : Outbox). repacked (end_u s.outbox) (packed body_of (unacked_of z o)) o) (sym h.outbox);
           queue =
               sym
               (repacked-same (end_q s.queue) (packed frame_body (frames_of s.queue q)) q (frames-bytes s.queue q exact.queued)

@@ -28,7 +28,8 @@ use Rattle.session.proofs.Lengths.{not_taken}
 use Rattle.session.proofs.Entry.{Entered, entered}
 use Rattle.setup.specs.Steps.{staged, proposing, rejecting}
 use Rattle.setup.proofs.Lending.{Plain, leaves}
-use Rattle.setup.proofs.Steps.{exact-staged, stays-packed}
+use Rattle.outbox.proofs.View.{stays-packed}
+use Rattle.setup.proofs.Steps.{exact-staged}
 
 -- ---- accept
 

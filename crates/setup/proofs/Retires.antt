@@ -31,7 +31,7 @@ use Rattle.session.proofs.Entry.{entered}
 use Rattle.session.proofs.Lengths.{not_taken}
 use Rattle.setup.specs.Steps.{staged, Retires, Forgets}
 use Rattle.setup.proofs.Lending.{Plain, is-taken, leaves}
-use Rattle.setup.proofs.Steps.{stays-packed}
+use Rattle.outbox.proofs.View.{stays-packed}
 
 -- ---- the steps
 

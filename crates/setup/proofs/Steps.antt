@@ -1,10 +1,7 @@
 -- The steps of a setup. Assumes nothing.
-use mathlib.Core.Path.{◌≡◌, refl, sym, ap, ◌∙◌}
+use mathlib.Core.Path.{◌≡◌, refl, ap}
 use mathlib.Core.List.{List, []}
 use Prim.Native.Nat.{ℕ, ◌+◌}
-use native.Mathlib.Omega.{arith}
-use lib.ListN.{length}
-use lib.Seq.{length-take-le}
 use Rattle.rules.specs.declared.Terms.{Terms}
 use Rattle.rules.specs.declared.Setup.{Setup}
 use Rattle.rules.specs.declared.Answer.{Answer}
@@ -17,13 +14,11 @@ use Rattle.rules.specs.Progress.{Progress, halts, Outcome, outcome, ◌then◌, 
 use Rattle.rules.specs.Sending.{allocate}
 use Rattle.rules.specs.Setup.{waiting_with}
 use Rattle.rules.specs.Buffers.{repacked}
-use Rattle.rules.proofs.Buffers.{repacked-same}
 use Rattle.std.specs.Prelude.{Ok, Err}
 use Rattle.events.specs.Written.{asked}
 use Rattle.events.proofs.Laws.{listed-none}
 use Rattle.outbox.specs.declared.Outbox.{Outbox}
-use Rattle.outbox.specs.View.{end_u, unacked_of, ExactOutbox}
-use Rattle.outbox.proofs.View.{packed-unacked}
+use Rattle.outbox.specs.View.{end_u, unacked_of}
 use Rattle.peer_session.specs.declared.SessionState.{SessionState}
 use Rattle.peer_session.specs.View.{reject_of, state_of, Exact}
 use Rattle.peer_session.specs.Allocates.{Allocates}
@@ -41,11 +36,6 @@ exact-staged d setup s e =
       queued = e.queued;
       rest = record { waiting = r.waiting; retry = r.retry; handoff = r.handoff; handed = r.handed; reject = r.reject; rejects = r.rejects };
     }
-
--- a store whose bodies stay is as it was
-pub stays-packed : (x : Outbox) (o : Bytes) → ExactOutbox x (length o) → o ≡ repacked (end_u x) (packed body_of (unacked_of x o)) o
-stays-packed x o e =
-    sym (repacked-same (end_u x) (packed body_of (unacked_of x o)) o (packed-unacked x o) (ap length (packed-unacked x o) ∙ length-take-le (end_u x) o (omega (arith, e))))
 
 returned_cong : {s t : SessionState} {a b : Answer} {m n : ℕ} → s ≡ t → a ≡ b → m ≡ n
     → ◌≡◌ {A = Returned} (record { session = s; answer = a; events = m }) (record { session = t; answer = b; events = n })

@@ -1,25 +1,26 @@
-use Prim.Native.Nat.{◌≤◌}
-use native.Mathlib.Omega.{arith}
-use Rattle.parts.specs.Parts.{at, outbox_in}
+use Rattle.std.proofs.Common.{◌≡◌, ◌≤◌, ℕ, List, true, arith}
+use Rattle.outbox.specs.Sound.{sound_outbox_of}
 use Rattle.outbox.proofs.View.{sound_facts}
+use Rattle.parts.specs.Parts.{at, outbox_in}
 use Rattle.link_outbox.proofs.Marks.{marked, not_marked}
 use Rattle.link_outbox.proofs.mark_sent.Goals as goal
 
-pub seat-i-requires : goal.seat-i-requires
-seat-i-requires c = let few : at c.args.words.now 1 ≤ 256 = (sound_facts (outbox_in c.args.words.now c.args.halves.now c.args.bytes.now) c.requires).few in few
+few : (w h b : List ℕ) → sound_outbox_of (outbox_in w h b) ≡ true → at w 1 ≤ 256
+few w h b s = (sound_facts (outbox_in w h b) s).few
+
+pub seat-requires : goal.seat-requires
+seat-requires c = few c.args.words.now c.args.halves.now c.args.bytes.now c.requires
 
 pub overflow_add-bytes : goal.overflow_add-bytes
-overflow_add-bytes c = let few : at c.args.words.now 1 ≤ 256 = (sound_facts (outbox_in c.args.words.now c.args.halves.now c.args.bytes.now) c.requires).few in omega (arith, few)
+overflow_add-bytes c = omega (arith, c.in-Some.ensures, few c.args.words.now c.args.halves.now c.args.bytes.now c.requires)
 
 pub bounds-bytes-i : goal.bounds-bytes-i
-bounds-bytes-i c = let few : at c.args.words.now 1 ≤ 256 = (sound_facts (outbox_in c.args.words.now c.args.halves.now c.args.bytes.now) c.requires).few in omega (arith, few)
+bounds-bytes-i c = omega (arith, c.in-Some.ensures, few c.args.words.now c.args.halves.now c.args.bytes.now c.requires)
 
-pub returns-then-i-count : goal.returns-then-i-count
-returns-then-i-count c =
-    let a = c.args in
-    marked a.words.now a.halves.now a.bytes.now a.number c.seat-i.result c.requires c.seat-i.ensures (omega arith) c.if-i-count.true
+pub returns-in-Some : goal.returns-in-Some
+returns-in-Some c =
+    marked c.args.words.now c.args.halves.now c.args.bytes.now c.args.number c.in-Some.i c.requires c.in-Some.ensures (omega arith)
 
-pub returns : goal.returns
-returns c =
-    let a = c.args in
-    not_marked a.words.now a.halves.now a.bytes.now a.number c.seat-i.result c.requires c.seat-i.ensures c.if-i-count.false
+pub returns-in_default : goal.returns-in_default
+returns-in_default c =
+    not_marked c.args.words.now c.args.halves.now c.args.bytes.now c.args.number c.requires c.in_default.ensures

@@ -2,7 +2,8 @@ use native.Mathlib.Omega.{arith}
 use mathlib.Core.Path.{◌∙◌}
 use Rattle.peer_session.proofs.Sends.{spent, many, long, joins}
 use Rattle.link_outbox.proofs.Sounds.{bounded}
-use Rattle.link_sending.proofs.Sends.{refused_in, joined_in, ends_at}
+use Rattle.link_outbox.proofs.Sounds.{ends_at}
+use Rattle.link_sending.proofs.Sends.{refused_in, joined_in}
 use Rattle.link_sending.proofs.allocate.Goals as goal
 
 pub returns-then-words-gt-LAST_MESSAGE : goal.returns-then-words-gt-LAST_MESSAGE

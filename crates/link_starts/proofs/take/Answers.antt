@@ -1,7 +1,8 @@
 use mathlib.Core.Path.{◌∙◌}
 use native.Mathlib.Omega.{arith}
 use Rattle.link_outbox.proofs.Sounds.{bounded}
-use Rattle.link_starts.proofs.Messages.{takes_in, ends_at}
+use Rattle.link_outbox.proofs.Sounds.{ends_at}
+use Rattle.link_starts.proofs.Messages.{takes_in}
 use Rattle.link_starts.proofs.take.Goals as goal
 
 pub used-end-requires : goal.used-end-requires

@@ -4,4 +4,4 @@ use Rattle.outbox.proofs.send_if.Goals as goal
 pub returns : goal.returns
 returns c =
     let a = c.args in
-    sends_not a.u a.at a.list.now a.n a.goes c.if-goes.false
+    sends_not a.number a.len a.at a.list.now a.n a.goes c.if-goes.false
