@@ -9,18 +9,14 @@ use rules::Refusal;
 use session::Returned;
 use starts::Reliable;
 
-// What calls write beside the session: the list for their events, and the stores.
+// What calls write beside the session: the list for their events, and the stores. A struct here, and four arguments in the exported calls: those
+// promise what each buffer becomes, which of a struct of `&mut` takes a clause for each field, and the functions here promise nothing of them.
 #[derive(Drop)]
 pub struct Stores<'a> {
     pub list: &'a mut [u64; 4096],
     pub delivery: &'a mut [u8; 49152],
     pub outbound: &'a mut [u8; 65536],
     pub queue: &'a mut [u8; 32768],
-}
-
-// A part that a slice does not have is empty.
-fn between(s: &[u8], from: usize, to: usize) -> &[u8] {
-    s.get(from..to).unwrap_or(b"")
 }
 
 fn lent_record<'a>(r: Record, lent: Lent<'a>) -> starts::Record<'a> {
@@ -33,7 +29,7 @@ fn lent_record<'a>(r: Record, lent: Lent<'a>) -> starts::Record<'a> {
         reliable,
         numbers: text::front(lent.numbers, r.messages.count),
         lengths: text::front(lent.lengths, r.messages.count),
-        bodies: between(lent.body, r.messages.from, r.messages.to),
+        bodies: text::between(lent.body, r.messages.from, r.messages.to),
     }
 }
 
@@ -56,7 +52,7 @@ fn given<'a>(h: Handoff, body: &'a [u8], to: usize) -> Given<'a> {
         number: h.number,
         sent: h.sent,
         acknowledged: h.acknowledged,
-        body: between(body, to, to.wrapping_add(h.len)),
+        body: text::between(body, to, to.wrapping_add(h.len)),
     }
 }
 
@@ -71,22 +67,10 @@ fn restore(
     restores::restore(s, outbound, lent_record(r, lent), given)
 }
 
-fn prepare(s: SessionState) -> Returned {
-    let a = commits::prepare_commit(s);
-    Returned {
-        session: s,
-        answer: a,
-        events: 0,
-    }
-}
-
+// A keepalive hands no session back, since it changes none.
 fn keepalive(s: SessionState, list: &mut [u64; 4096]) -> Returned {
-    let t = acks::receive_keepalive(s, list);
-    Returned {
-        session: s,
-        answer: t.answer,
-        events: t.events,
-    }
+    let told = acks::receive_keepalive(s, list);
+    session::unchanged(s, told.answer, told.events)
 }
 
 // Calls on the setup and the handoff. The calls are in three functions, since one would be too long to read.
@@ -148,7 +132,7 @@ pub fn call(c: Call, s: SessionState, lent: Lent, stores: &mut Stores) -> Return
             let b = text::front(lent.body, n);
             sending::send_message(s, list, outbound, b)
         }
-        Call::Prepare => prepare(s),
+        Call::Prepare => session::unchanged(s, commits::prepare_commit(s), 0),
         Call::Complete { commit, persisted } => {
             commits::complete_commit(s, list, commit, persisted)
         }

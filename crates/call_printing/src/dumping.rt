@@ -1,5 +1,5 @@
 // The state of a session, printed.
-use crate::{part, print_body};
+use crate::{print_body, print_part};
 use lines::Output;
 use numbers::Numbers;
 use outbox::Outbox;
@@ -75,13 +75,13 @@ fn end_counted(out: &mut Output, count: usize, room: usize) {
 fn print_unacked(out: &mut Output, o: Outbox, store: &[u8]) {
     out.print_bytes(b"unacked");
     print_field(out, o.count as u64);
-    let mut from: u64 = 0;
+    let mut from: usize = 0;
     for u in text::front(&o.records, o.count) {
-        let len = u64::from(u.len);
+        let len = u.len as usize;
         print_field(out, u64::from(u.number));
         print_flag(out, u.pending);
         print_flag(out, u.unsent);
-        print_body(out, part(store, from, len));
+        print_part(out, store, from, len);
         from = from.wrapping_add(len);
     }
     end_counted(out, o.count, o.records.len());
@@ -90,12 +90,12 @@ fn print_unacked(out: &mut Output, o: Outbox, store: &[u8]) {
 fn print_queue(out: &mut Output, q: Queue, store: &[u8]) {
     out.print_bytes(b"queue");
     print_field(out, q.count as u64);
-    let mut from: u64 = 0;
+    let mut from: usize = 0;
     for u in text::front(&q.records, q.count) {
-        let len = u64::from(u.len);
+        let len = u.len as usize;
         print_field(out, u.number);
         print_field(out, u64::from(u.kind));
-        print_body(out, part(store, from, len));
+        print_part(out, store, from, len);
         from = from.wrapping_add(len);
     }
     end_counted(out, q.count, q.records.len());

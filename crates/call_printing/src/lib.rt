@@ -6,16 +6,15 @@ use rules::{Answer, EventCode};
 
 pub mod dumping; // the state of a session
 
-// The len bytes from index start on, none where the slice does not have them.
-fn part(s: &[u8], start: u64, len: u64) -> &[u8] {
-    let rest = s.get(start as usize..).unwrap_or(b"");
-    rest.get(..len as usize).unwrap_or(b"")
-}
-
 // A space and a body.
 fn print_body(out: &mut Output, body: &[u8]) {
     out.print_byte(b' ');
     out.print_hex(body);
+}
+
+// The len bytes of a store from index start on, none where it does not have them: a sum that wraps is below start.
+fn print_part(out: &mut Output, store: &[u8], start: usize, len: usize) {
+    print_body(out, text::between(store, start, start.wrapping_add(len)));
 }
 
 fn print_answer(out: &mut Output, a: Answer, events: usize) {
@@ -48,10 +47,10 @@ pub fn print_fetch(out: &mut Output, a: Answer, body: &[u8]) {
 fn print_pointed(out: &mut Output, event: &[u64], delivery: &[u8], outbound: &[u8]) {
     match *event {
         [code, _, start, len] if code == EventCode::Message as u64 => {
-            print_body(out, part(delivery, start, len))
+            print_part(out, delivery, start as usize, len as usize)
         }
         [code, _, start, len] if code == EventCode::SendData as u64 => {
-            print_body(out, part(outbound, start, len))
+            print_part(out, outbound, start as usize, len as usize)
         }
         _ => {}
     }

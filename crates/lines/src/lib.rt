@@ -7,7 +7,8 @@ ghost use Rattle.lines.specs.Numerals.{Decimals, hex16_text};
 
 use std::io::{Read, Stdin, Stdout, Write};
 
-// The digits of v, at most 20.
+// The digits of v, at most 20. As text::put_bytes, put_decimal and put_hex16 take buffer and count, and no Output: they write into any buffer, and
+// promise what they write, where Output's methods promise no text.
 pub fn put_decimal(out: &mut [u8], n: usize, v: u64) -> usize
     requires { n + 20 ≤ length out.old }
     ensures { Decimals out.old n v result out.new }
@@ -118,13 +119,15 @@ impl Output {
         self.used = 0;
     }
 
+    // Writes what is left, and ends.
     pub fn finish(mut self) {
         self.flush();
         let Output {
             stdout: _stdout,
             bytes: _bytes,
-            used: _used,
+            used,
         } = self;
+        prove!(used == 0);
     }
 
     // Makes room for n bytes. What print_byte, print_decimal, print_hex16 and print_hex_byte do with it differs in n and in who writes there: two lines

@@ -35,16 +35,6 @@ fn start(message_number: u64, outbound: &mut [u8; 65536], queue: &mut [u8; 32768
     starts::start(record, policy, b"r", outbound, queue)
 }
 
-// As in `call_making`, which stands on more crates than this one, and is not listed for these few lines.
-fn prepare(s: SessionState) -> Returned {
-    let a = commits::prepare_commit(s);
-    Returned {
-        session: s,
-        answer: a,
-        events: 0,
-    }
-}
-
 impl Script {
     // A fresh session that starts at message_number.
     pub fn new(message_number: u64) -> Self {
@@ -73,7 +63,7 @@ impl Script {
             Call::Send(n) => {
                 sending::send_message(s, list, &mut self.outbound, text::front(&self.body, n))
             }
-            Call::Prepare => prepare(s),
+            Call::Prepare => session::unchanged(s, commits::prepare_commit(s), 0),
             Call::Complete(persisted) => commits::complete_commit(s, list, self.commit, persisted),
             Call::Ack(n) => acks::receive_ack(s, list, &mut self.outbound, &mut self.queue, n),
             Call::Report(n, accepted) => acks::report(s, list, FrameKind::Data as u64, n, accepted),

@@ -29,15 +29,24 @@ pub struct Told {
     pub events: usize,
 }
 
+// What a call hands back that leaves the session as it is.
+pub fn unchanged(s: SessionState, answer: Answer, events: usize) -> Returned
+    ensures session { result.session ≡ s }
+    ensures answer { result.answer ≡ answer }
+    ensures events { result.events ≡ events }
+{
+    Returned {
+        session: s,
+        answer,
+        events,
+    }
+}
+
 // A refusal that changes nothing.
 pub fn refused(s: SessionState, x: Refusal) -> Returned
     ensures { Turned s x result }
 {
-    Returned {
-        session: s,
-        answer: Answer::Refused(x),
-        events: 0,
-    }
+    unchanged(s, Answer::Refused(x), 0)
 }
 
 // The length of a buffer that a call does not take.

@@ -1,7 +1,7 @@
 -- The laws of fields, and of a line that is gathered. Assumes nothing.
 use mathlib.Core.Path.{◌≡◌, refl, sym, ap, subst, ◌∙◌}
 use mathlib.Core.Bool.{Bool, true, false, not}
-use mathlib.Core.List.{List}
+use mathlib.Core.List.{List, []}
 use Prim.Native.Nat.{ℕ, ◌+◌, ◌-◌, ◌≤◌, ◌<◌}
 use native.Mathlib.Omega.{arith}
 use lib.Dec.{leb, ltb}
@@ -9,13 +9,17 @@ use lib.ListN.{length, take, drop}
 use borrow.Author.Tests.{le-leb, lt-leb, lt-ltb, le-ltb, ltb-true, ltb-false}
 use Rattle.rules.specs.Lists.{before, same}
 use Rattle.stores.specs.Placed.{placed}
-use Rattle.std.specs.Prelude.{Option, Some, None}
+use denote.Bor.{Bor}
+use Rattle.std.specs.Prelude.{if◌then◌else◌, Option, Some, None}
+use Rattle.std.specs.Option.{unwrap_or}
+use Rattle.std.specs.Slice.{IsGetRangeResult}
+use Rattle.std.proofs.Common.{inl, inr}
 use Rattle.std.specs.List.{position, position_or_len}
 use Rattle.std.proofs.lemmas.Option.{cond_some, none-some}
 use Rattle.std.proofs.lemmas.List.Recursion.{is_position_or_len}
 use Rattle.std.proofs.lemmas.List.Sums.{prefix_len-le-length}
 use Rattle.std.proofs.Common.{length-drop}
-use Rattle.text.specs.Fields.{one, is, place_of, Found, field_of, has_word, grown_size, grown, Grown, part_of, next_of, Gathered}
+use Rattle.text.specs.Fields.{one, is, place_of, Found, field_of, between, has_word, grown_size, grown, Grown, part_of, next_of, Gathered}
 
 -- where the first b is, as `position` counts
 place-position : (b : ℕ) (s : List ℕ) → before one (is b) s ≡ position_or_len (is b) s
@@ -81,3 +85,19 @@ module _ (chunk : List ℕ) (at : ℕ) {buffer line' : List ℕ} {n e size : ℕ
   gathered_part h =
       let t : ltb (place_of 10 chunk at) (length chunk) ≡ false = subst (λ (k : ℕ). ltb k (length chunk) ≡ false) f.place (le-ltb e (length chunk) h) in
       record { line = part-grown; next = rw t; on = tt; within = tt }
+
+-- ---- a part of a list that may not have it
+
+between_none : {T : Type 0} (s : List T) (a e : ℕ) → e < a → [] ≡ between s a e
+unfolding between
+between_none {T} s a e h = let z : e - a ≡ 0 = omega arith in rw z (go (leb e (length s)))
+  where
+    go : (t : Bool) → [] ≡ (if t then take 0 (drop a s) else [])
+    go true = refl
+    go false = refl
+
+pub between_got : {T : Type 0} (s : List T) (a e : ℕ) (r : Option (Bor (List T))) (d : Bor (List T)) → d.now ≡ [] → IsGetRangeResult s a e r → (unwrap_or r d).now ≡ between s a e
+unfolding between
+between_got s a e (Some x) d n h = rw (le-leb e _ h.0.1) h.0.2
+between_got s a e None d n (inl h, k) = rw n (between_none s a e h)
+between_got s a e None d n (inr h, k) = rw (lt-leb e (length s) h) n

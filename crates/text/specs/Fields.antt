@@ -1,5 +1,5 @@
 -- The fields of a line, one space between two of them, and a line that is gathered from parts of the input. Assumes nothing.
-use Rattle.std.specs.Prelude.{ℕ, ◌+◌, ◌-◌, ◌≤◌, ◌<◌, ◌≡◌, Bool, List, leb, ltb, eqb, length, take, drop, if◌then◌else◌, Option, Some, None, IfSome}
+use Rattle.std.specs.Prelude.{ℕ, ◌+◌, ◌-◌, ◌≤◌, ◌<◌, ◌≡◌, Bool, List, [], leb, ltb, eqb, length, take, drop, if◌then◌else◌, Option, Some, None, IfSome}
 use Rattle.rules.specs.Lists.{before, same}
 use Rattle.stores.specs.Placed.{placed}
 use Rattle.text.specs.declared.Piece.{Piece}
@@ -28,6 +28,10 @@ pub record NextField (s : List ℕ) (end : ℕ) (f : List ℕ) (e : ℕ) : Type 
   pub some : end < length s
   pub field : f ≡ field_of s (end + 1)
   pub place : e ≡ place_of 32 s (end + 1)
+
+-- the elements from index a up to index e, none where the list ends before e
+unfoldable pub between : {T : Type 0} → List T → ℕ → ℕ → List T
+between s a e = if leb e (length s) then take (e - a) (drop a s) else []
 
 -- the first field is the word w
 unfoldable pub has_word : List ℕ → List ℕ → Bool

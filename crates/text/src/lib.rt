@@ -4,7 +4,7 @@
 ghost use Rattle.std.specs.Prelude.{◌≡◌, true, [], ◌∷◌, ◌+◌, ◌-◌, ◌*◌, ◌≤◌, ◌<◌, length, take, MatchOption};
 ghost use Rattle.rules.specs.Lists.{all};
 ghost use Rattle.stores.specs.Placed.{placed};
-ghost use Rattle.text.specs.Fields.{Found, has_word, NextField, Grown, Gathered};
+ghost use Rattle.text.specs.Fields.{Found, between, has_word, NextField, Grown, Gathered};
 ghost use Rattle.text.specs.Filled.{Filling};
 ghost use Rattle.text.specs.Hex.{pairs, is_dash, is_pairs, Decoded};
 ghost use Rattle.text.specs.Numbers.{digit_of, is_digit_byte, onward, number_of, decimal_of, hex16_of};
@@ -36,10 +36,7 @@ fn add_digit(n: u64, base: u64, b: u8) -> Option<u64>
     ensures { result ≡ onward base n (b ∷ []) }
 {
     let d = u64::from(digit(b));
-    if base <= d {
-        return None;
-    }
-    if (18446744073709551615 - d) / base < n {
+    if base <= d || (u64::MAX - d) / base < n {
         return None;
     }
     Some(n * base + d)
@@ -102,10 +99,7 @@ fn write_pairs(s: &[u8], n: usize, out: &mut [u8])
 fn is_pairs(s: &[u8]) -> bool
     ensures { result ≡ is_pairs s.now }
 {
-    if s.is_empty() {
-        return false;
-    }
-    s.len() % 2 == 0 && is_hex(s)
+    !s.is_empty() && s.len() % 2 == 0 && is_hex(s)
 }
 
 fn is_dash(s: &[u8]) -> bool
@@ -132,7 +126,8 @@ pub fn hex(s: &[u8], out: &mut [u8]) -> Option<usize>
     Some(n)
 }
 
-// The index of the first b in s from index at on, or the length of s where there is none.
+// The index of the first b in s from index at on, or the length of s where there is none. No Option: what no b ends goes on to the end of s, so each
+// caller takes the index as an end, and with an Option all five would say `unwrap_or(s.len())`; gather_line alone asks which it is.
 pub fn find(s: &[u8], at: usize, b: u8) -> usize
     requires { at ≤ length s.now }
     ensures { Found b s.now at result }
@@ -148,6 +143,13 @@ pub fn front<T>(s: &[T], n: usize) -> &[T]
     ensures { result.now ≡ take n s.now }
 {
     &s[..n.min(s.len())]
+}
+
+// The elements from index from up to index to, none where s ends before to.
+pub fn between<T>(s: &[T], from: usize, to: usize) -> &[T]
+    ensures { result.now ≡ between s.now from to }
+{
+    s.get(from..to).unwrap_or(&[])
 }
 
 // Whether the first field is the word w, which then ends at index w.len().
@@ -199,15 +201,13 @@ pub fn hex_after(s: &[u8], end: usize, out: &mut [u8]) -> Option<(usize, usize)>
 }
 
 // Puts part after the n bytes of a line. A line that line does not hold stays out, and has the size line.len() + 1: a number and no Option, since that
-// size comes in again with the line's next part.
+// size comes in again with the line's next part. Buffer and size are no struct: the one caller of gather_line, `lines::Input::read_line`, is lent the
+// buffer and starts the size at 0 for each line, and the promise says of each what it becomes.
 pub fn gather(line: &mut [u8], n: usize, part: &[u8]) -> usize
     requires { length line.old < 18446744073709551615 }
     ensures { Grown line.old n part.now result line.new }
 {
-    if line.len() < n {
-        return line.len() + 1;
-    }
-    if line.len() - n < part.len() {
+    if line.len() < n || line.len() - n < part.len() {
         return line.len() + 1;
     }
     stores::copy_in(line, n, part);
@@ -225,7 +225,8 @@ pub fn gather_line(chunk: &[u8], at: usize, line: &mut [u8], n: usize) -> Piece
     Piece { size, next }
 }
 
-// The functions put_.. write at index n of out, and return the index after what they wrote.
+// The functions put_.. write at index n of out, and return the index after what they wrote. They take buffer and count, and no `lines::Output`, which
+// owns one buffer of 65,536 bytes: as its methods they would write into no other.
 pub fn put_byte(out: &mut [u8], n: usize, b: u8) -> usize
     requires { n < length out.old }
     ensures { Put out.old n (b ∷ []) result out.new }
