@@ -51,3 +51,7 @@ module _ {s : SessionState} {l d o q : ℕ} {wrong raises : Bool} where
 
           pub admits : Admitted s l d o q wrong raises
           admits = record { list = ll; delivery = ld; outbound = lo; queue = lq; known = known; sound = sym k.is; full = k.full; low = low }
+
+-- what a test of soundness would find past it
+pub checked : {s : SessionState} {l d o q : ℕ} {wrong raises : Bool} → Admitted s l d o q wrong raises → Checked s true
+checked a = record { is = sym a.sound; full = a.full }
