@@ -18,7 +18,6 @@ use Rattle.queue.specs.View.{ExactQueue, Repacked}
 use Rattle.peer_session.specs.declared.SessionState.{SessionState}
 use Rattle.peer_session.specs.Sound.{Checked}
 use Rattle.session.specs.Promise.{CalledWithStoresAlone}
-use Rattle.session.specs.Entry.{Admitted}
 use Rattle.setup.specs.Steps.{staged, Retires, Forgets}
 use Rattle.setup.proofs.Retires.{retires-is, forgets-is, retained, forgot, still_exact}
 use Rattle.parts.specs.declared.LinkAnswer.{LinkAnswer}
@@ -185,7 +184,3 @@ module _ (retain : Bool) (w h b : List ℕ) (t : Float) (o q : Bytes) (lo : 6553
   forgets e f {w₃} {h₃} {o'} g z =
       changes (parts w h b t) (sym k.is) (parts w₃ h₃ b₂ t) _ refl (Flag false) 0 z
       (λ l d. forgot retain (opened_of (parts w h b t)) l d o q lo lq (sym k.is) k.full (a.retires t) (tested e f) (g.forgets t))
-
--- what `usable` asks, of a call past its entry
-pub checked_by : {s : SessionState} {l d o q : ℕ} {wrong raises : Bool} → Admitted s l d o q wrong raises → Checked s true
-checked_by a = record { is = sym a.sound; full = a.full }

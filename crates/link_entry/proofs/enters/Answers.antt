@@ -11,16 +11,16 @@ pub returns-then-list-lt-EVENT_WORDS-clause-tested : goal.returns-then-list-lt-E
 returns-then-list-lt-EVENT_WORDS-clause-tested c = λ t.
     let f = full c.args.words.now c.args.halves.now c.args.bytes.now (record { words = omega arith; bytes = omega arith }) t in
     elim c.then-list-lt-EVENT_WORDS.branch [
-      then-list-lt-EVENT_WORDS-via-then-list-lt-EVENT_WORDS w ↦ list_short f w.if-list-lt-EVENT_WORDS.true
-    | then-list-lt-EVENT_WORDS-via-else-list-lt-EVENT_WORDS+then-delivery-lt-DELIVERY_BYTES w ↦ delivery_short f w.if-delivery-lt-DELIVERY_BYTES.true
+      | then-list-lt-EVENT_WORDS-via-then-list-lt-EVENT_WORDS w ↦ list_short f w.if-list-lt-EVENT_WORDS.true
+      | then-list-lt-EVENT_WORDS-via-else-list-lt-EVENT_WORDS+then-delivery-lt-DELIVERY_BYTES w ↦ delivery_short f w.if-delivery-lt-DELIVERY_BYTES.true
     ]
 
 pub returns-then-outbound-lt-OUTBOUND_BYTES-clause-tested : goal.returns-then-outbound-lt-OUTBOUND_BYTES-clause-tested
 returns-then-outbound-lt-OUTBOUND_BYTES-clause-tested c = λ t.
     let f = full c.args.words.now c.args.halves.now c.args.bytes.now (record { words = omega arith; bytes = omega arith }) t in
     elim c.then-outbound-lt-OUTBOUND_BYTES.branch [
-      then-outbound-lt-OUTBOUND_BYTES-via-then-outbound-lt-OUTBOUND_BYTES w ↦ outbound_short f w.if-outbound-lt-OUTBOUND_BYTES.true
-    | then-outbound-lt-OUTBOUND_BYTES-via-else-outbound-lt-OUTBOUND_BYTES+then-queue-lt-QUEUE_BYTES w ↦ queue_short f w.if-queue-lt-QUEUE_BYTES.true
+      | then-outbound-lt-OUTBOUND_BYTES-via-then-outbound-lt-OUTBOUND_BYTES w ↦ outbound_short f w.if-outbound-lt-OUTBOUND_BYTES.true
+      | then-outbound-lt-OUTBOUND_BYTES-via-else-outbound-lt-OUTBOUND_BYTES+then-queue-lt-QUEUE_BYTES w ↦ queue_short f w.if-queue-lt-QUEUE_BYTES.true
     ]
 
 pub returns-then-wrong-clause-tested : goal.returns-then-wrong-clause-tested
@@ -44,8 +44,8 @@ unfolding opened_of
 returns-clause-tested c = λ t.
     passes c.if-list-lt-EVENT_WORDS.false c.if-delivery-lt-DELIVERY_BYTES.false c.if-outbound-lt-OUTBOUND_BYTES.false c.if-queue-lt-QUEUE_BYTES.false c.if-wrong.false
     (rw c.if-not-sound.false at (c.sound.ensures t)) (λ e. elim c.else-raises.branch [
-      else-raises-via-then-raises+else-halves-ge-GENERATION_LIMIT w ↦ w.if-halves-ge-GENERATION_LIMIT.false
-    | else-raises-via-else-raises w ↦ absurd (true≢false (sym e ∙ w.if-raises.false))
+      | else-raises-via-then-raises+else-halves-ge-GENERATION_LIMIT w ↦ w.if-halves-ge-GENERATION_LIMIT.false
+      | else-raises-via-else-raises w ↦ absurd (true≢false (sym e ∙ w.if-raises.false))
     ])
 
 pub returns-clause-passed : goal.returns-clause-passed
@@ -53,6 +53,6 @@ unfolding opened_of
 returns-clause-passed c = λ t.
     admits c.if-list-lt-EVENT_WORDS.false c.if-delivery-lt-DELIVERY_BYTES.false c.if-outbound-lt-OUTBOUND_BYTES.false c.if-queue-lt-QUEUE_BYTES.false c.if-wrong.false
     (rw c.if-not-sound.false at (c.sound.ensures t)) (λ e. elim c.else-raises.branch [
-      else-raises-via-then-raises+else-halves-ge-GENERATION_LIMIT w ↦ w.if-halves-ge-GENERATION_LIMIT.false
-    | else-raises-via-else-raises w ↦ absurd (true≢false (sym e ∙ w.if-raises.false))
+      | else-raises-via-then-raises+else-halves-ge-GENERATION_LIMIT w ↦ w.if-halves-ge-GENERATION_LIMIT.false
+      | else-raises-via-else-raises w ↦ absurd (true≢false (sym e ∙ w.if-raises.false))
     ])
