@@ -216,7 +216,8 @@ pub fn deliver(s: Step, list: &mut [u64], delivery: &mut [u8], f: Frame) -> Resu
 
 // ---- the drain
 
-// The host is there, and the mode listens. What it says of a channel means nothing: there is none.
+// The host is there, and the mode listens. What it says of a channel means nothing: there is none. The first test stands with its return: `&&` before
+// the whole match would read no plainer.
 pub fn available(t: Turn, status: HostStatus) -> bool
     ensures { Available status t result }
 {

@@ -1,5 +1,5 @@
 -- A fetch, test by test. Assumes nothing.
-use Rattle.std.specs.Prelude.{Option}
+use Rattle.std.specs.Prelude.{Option, None, unwrap_or}
 use mathlib.Core.Path.{◌≡◌, refl, sym, ap, ◌∙◌}
 use mathlib.Core.Bool.{true, false}
 use mathlib.Core.List.{List, []}
@@ -7,7 +7,7 @@ use Prim.Native.Nat.{ℕ, ◌≤◌, ◌<◌}
 use native.Mathlib.Omega.{arith}
 use lib.ListN.{length}
 use Rattle.rules.specs.declared.Answer.{Answer}
-use Rattle.rules.specs.declared.Answer.TheVariants.{Refused}
+use Rattle.rules.specs.declared.Answer.TheVariants.{Done, Number, Flag, Prepared, Held, NotHeld, Refused}
 use Rattle.rules.specs.declared.Refusal.TheVariants.{ShortBuffer, BadRecord}
 use Rattle.rules.specs.Lists.{Bytes}
 use Rattle.rules.specs.Progress.{outcome}
@@ -21,11 +21,11 @@ use Rattle.outbox.proofs.Places.{place-unacked}
 use Rattle.peer_session.specs.declared.SessionState.{SessionState}
 use Rattle.peer_session.specs.View.{state_of}
 use Rattle.peer_session.specs.Sound.{sound_of, Full}
-use Rattle.session.specs.Promise.{lent}
+use Rattle.session.specs.Promise.{Exit, lent}
 use Rattle.session.proofs.Promises.{promise-short, promise_unsound, outbound-same}
 use Rattle.session.proofs.Lengths.{short-outbound, long-enough, not_taken}
 use Rattle.session.proofs.Entry.{Entered, entered, meets}
-use Rattle.fetches.specs.Fetched.{AnsweredWithOutbound}
+use Rattle.fetches.specs.Fetched.{AnsweredWithOutbound, part_if, part_of, FetchedIf, Fetched}
 
 module _ (n : ℕ) (s : SessionState) (o : Bytes) where
   known : wrong_code (fetches n) ≡ false
@@ -61,3 +61,30 @@ module _ (n : ℕ) (s : SessionState) (o : Bytes) where
             outbound = sym (outbound-same i.stored);
             queue = refl;
           })
+
+-- ---- the body, by what is answered
+
+pub no_part : (a : Answer) (o : Bytes) → ((x y : ℕ) → a ≡ Held x y → ⊥) → None ≡ part_if a o
+no_part Done o h = refl
+no_part (Number n) o h = refl
+no_part (Flag b) o h = refl
+no_part (Prepared c) o h = refl
+no_part (Held x y) o h = absurd (h x y refl)
+no_part NotHeld o h = refl
+no_part (Refused x) o h = refl
+
+part_or : (a : Answer) (o : Bytes) → unwrap_or (part_if a o) [] ≡ part_of a o
+part_or Done o = refl
+part_or (Number n) o = refl
+part_or (Flag b) o = refl
+part_or (Prepared c) o = refl
+part_or (Held x y) o = refl
+part_or NotHeld o = refl
+part_or (Refused x) o = refl
+
+module _ (n : ℕ) (s : SessionState) (o : Bytes) where
+  pub held_by : {a : Answer} → AnsweredWithOutbound (fetches n) s o a → FetchedIf n s o (part_if a o)
+  held_by h l d q lq = ap (λ (e : Exit). part_if e.answer o) (h l d q lq)
+
+  pub fetched_by : {r : Option Bytes} → FetchedIf n s o r → Fetched n s o (unwrap_or r [])
+  fetched_by h l d q lq = ap (λ (r : Option Bytes). unwrap_or r []) (h l d q lq) ∙ part_or _ o

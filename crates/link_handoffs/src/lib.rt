@@ -86,10 +86,7 @@ fn same_body(words: &Words, bytes: &Bytes, body: &[u8]) -> bool
 fn unacked_to(words: &Words, halves: &Halves, number: u64) -> bool
     ensures { (b : List ℕ) (s : Bytes) → sound_outbox_of (outbox_in words.now halves.now b) ≡ true → result ≡ any (numbered_to number) (unacked_of (outbox_in words.now halves.now b) s) }
 {
-    if words[parts::UNACKED] == 0 {
-        return false;
-    }
-    u64::from(halves[0]) <= number
+    words[parts::UNACKED] != 0 && u64::from(halves[0]) <= number
 }
 
 // Whether an unacked message has its number and its body.

@@ -62,7 +62,8 @@ pub fn receive(
     }
 }
 
-// The Rust's `receive_data`: a peer's data, with the kind of its body.
+// The Rust's `receive_data`: a peer's data, with the kind of its body. Number, kind and body stand apart, as C gives them: the kind is a number of any size
+// until it is tested here, and a Frame has room only for a byte.
 pub fn data(
     words: &mut Words,
     halves: &mut Halves,

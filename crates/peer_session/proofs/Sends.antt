@@ -1,6 +1,5 @@
 -- A message that joins an outbox, or a refusal that leaves it. Assumes nothing.
 use mathlib.Core.Path.{◌≡◌, refl, sym, ap, ◌∙◌}
-use mathlib.Core.Bool.{Bool, true, false, ◌||◌}
 use mathlib.Core.List.{List, [], ◌∷◌, ◌++◌}
 use Prim.Native.Nat.{ℕ, ◌+◌, ◌≤◌, ◌<◌}
 use native.Mathlib.Omega.{arith}
@@ -19,6 +18,7 @@ use Rattle.rules.specs.Sending.{fresh, numbered, allocate}
 use Rattle.rules.specs.Buffers.{repacked}
 use Rattle.rules.proofs.Buffers.{repacked-same}
 use Rattle.std.specs.Prelude.{Ok, Err}
+use Rattle.std.proofs.lemmas.Bool.{or_right}
 use Rattle.outbox.specs.declared.Outbox.{Outbox}
 use Rattle.outbox.specs.View.{end_u, unacked_of, outbox_of, ExactOutbox}
 use Rattle.outbox.specs.Steps.{Appended}
@@ -26,10 +26,6 @@ use Rattle.outbox.proofs.View.{packed-unacked, exact-count, exact-total}
 use Rattle.peer_session.specs.Allocates.{Allocates}
 
 -- ---- the rule, test by test
-
-or_right : (a b : Bool) → b ≡ true → (a || b) ≡ true
-or_right true b e = refl
-or_right false b e = e
 
 module _ (b : Bytes) (d : ℕ) (t : R.State) where
   pub allocate_spent : 4294967295 < t.outbox.next → allocate b d t ≡ halts NumbersExhausted t

@@ -246,25 +246,16 @@ pub fn broken(s: SessionState, queue: &mut [u8]) -> SessionState
 
 // Tests stand one a line, as document 01 lists them, each with its return: `&&` over all of them would read no plainer.
 
+#[tactic(auto, unfolding(crate::specs::Sound::sound_acks))]
 pub fn sound_acks(w: Numbers, r: Numbers, queued: usize, remote: u64) -> bool
     ensures { result ≡ sound_acks w r queued remote }
 {
-    if 512 < w.count {
-        return false;
-    }
-    if 512 - w.count < queued {
-        return false;
-    }
-    if 512 < r.count {
-        return false;
-    }
-    if !numbers::rises(w, 0, 0) {
-        return false;
-    }
-    if !numbers::at_most(w, remote) {
-        return false;
-    }
-    numbers::ascends(r)
+    w.count <= 512
+        && queued <= 512 - w.count
+        && r.count <= 512
+        && numbers::rises(w, 0, 0)
+        && numbers::at_most(w, remote)
+        && numbers::ascends(r)
 }
 
 pub fn sound_sizes(disposition: u8, handoff: usize, reject: usize) -> bool

@@ -28,7 +28,9 @@ pub enum Verdict {
 
 // ---- checks
 
-// 26: the acks that wait and the frames in the queue are 512 together, and the number is in neither, nor answered by code 10. One test a line, as the paper.
+// Tests stand one a line, as document 01 lists them, each with its return: `&&` over all of them would read no plainer.
+
+// 26: the acks that wait and the frames in the queue are 512 together, and the number is in neither, nor answered by code 10.
 fn acks_full(s: SessionState, number: u64) -> bool
     requires { (ExactNumbers s.waiting) × (s.queue.count ≤ 256) }
     ensures { Filled number s result }
@@ -237,7 +239,8 @@ fn receive(
     }
 }
 
-// The Rust's `receive_data`: a peer's data, with the kind of its body.
+// The Rust's `receive_data`: a peer's data, with the kind of its body. Number, kind and body stand apart, as C gives them: the kind is a number of any size
+// until it is tested here, and a Frame has room only for a byte.
 pub fn receive_data(
     s: SessionState,
     list: &mut [u64],

@@ -6,6 +6,7 @@ use Prim.Native.Nat.{ℕ, ◌≤◌}
 use lib.ListN.{length}
 use lib.Dec.{ltb, leb}
 use borrow.Author.Tests.{ltb-false, leb-true}
+use Rattle.std.proofs.lemmas.Bool.{or_parts}
 use Rattle.std.specs.Prelude.{Result, Ok, Err, IfOk, is_err}
 use Rattle.std.specs.Result.{result_and}
 use Rattle.rules.specs.declared.Answer.TheVariants.{Refused}
@@ -23,14 +24,10 @@ use Rattle.session.specs.Promise.{Called, Turned}
 use Rattle.session.specs.Entry.{lacking, entry_of, Enters}
 use Rattle.session.proofs.Entry.{entered, is-short, is_wrong, is_unsound, is_refused}
 
-neither : (a b : Bool) → (a || b) ≡ false → (a ≡ false) × (b ≡ false)
-neither true b e = cc
-neither false b e = (refl, e)
-
 stores-long : (l d o q : ℕ) → lacking l d o q ≡ false → (65536 ≤ o) × (32768 ≤ q)
 stores-long l d o q e =
-    let x = neither (ltb l 4096 || ltb d 49152 || ltb o 65536) (ltb q 32768) e in
-    let y = neither (ltb l 4096 || ltb d 49152) (ltb o 65536) x.0 in
+    let x = or_parts (ltb l 4096 || ltb d 49152 || ltb o 65536) (ltb q 32768) e in
+    let y = or_parts (ltb l 4096 || ltb d 49152) (ltb o 65536) x.0 in
     (ltb-false _ _ y.1, ltb-false _ _ x.1)
 
 abbrev stop : Refusal → Result (Unit {0}) Refusal

@@ -1,9 +1,11 @@
 -- How an exported call meets its promise, from the tests that it made at its entry. Assumes nothing.
-use mathlib.Core.Path.{◌≡◌, sym, ap, ◌∙◌}
-use mathlib.Core.Bool.{true, false}
+use mathlib.Core.Path.{◌≡◌, refl, sym, ap, ◌∙◌}
+use mathlib.Core.Bool.{Bool, true, false, ◌&&◌}
 use mathlib.Core.List.{[]}
-use Prim.Native.Nat.{ℕ, ◌≤◌}
+use Prim.Native.Nat.{ℕ, ◌≤◌, ◌<◌}
 use lib.ListN.{length, take}
+use lib.Dec.{leb}
+use borrow.Author.Tests.{le-ltb, lt-leb}
 use Rattle.rules.specs.declared.Answer.{Answer}
 use Rattle.rules.specs.declared.Answer.TheVariants.{Refused}
 use Rattle.rules.specs.declared.Refusal.{Refusal}
@@ -19,6 +21,7 @@ use Rattle.peer_session.specs.View.{held, encode, state_of, Exact}
 use Rattle.peer_session.specs.Sound.{sound_of, Full}
 use Rattle.peer_session.proofs.View.{Good, exact-held, sound-good}
 use Rattle.session.specs.declared.Returned.{Returned}
+use Rattle.session.specs.Entry.{lacking}
 use Rattle.session.specs.Promise.{exit, unchanged, promise, Called, Turned}
 use Rattle.session.proofs.Promises.{promise-short, promise-code, promise_unsound, promise-follows, Follows, follows_is, Stored, refuses}
 
@@ -40,6 +43,15 @@ pub entered : (s : SessionState) (o q : Bytes) → sound_of s ≡ true → Full 
 entered s o q e full lo lq =
     let g : Good s o q = sound-good s o q e full lo lq in
     record { good = g; held-is = exact-held s o q g.exact; stored = stored_exact s o q g.exact }
+
+-- ---- the tests at the entry, where a call passes them
+
+pub lacks_none : (l d o q : ℕ) → 4096 ≤ l → 49152 ≤ d → 65536 ≤ o → 32768 ≤ q → lacking l d o q ≡ false
+lacks_none l d o q hl hd ho hq = rw (le-ltb l 4096 hl, le-ltb d 49152 hd, le-ltb o 65536 ho, le-ltb q 32768 hq)
+
+pub spends_none : (b : Bool) (n : ℕ) → (b ≡ true → n < 4294966000) → (b && leb 4294966000 n) ≡ false
+spends_none true n h = lt-leb 4294966000 n (h refl)
+spends_none false n h = refl
 
 -- ---- a refusal as a value
 

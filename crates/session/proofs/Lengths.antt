@@ -5,6 +5,7 @@ use Prim.Native.Nat.{ℕ, ◌≤◌, ◌<◌}
 use lib.ListN.{length}
 use lib.Dec.{ltb}
 use borrow.Author.Tests.{lt-ltb, le-ltb, ltb-true, ltb-false}
+use Rattle.std.proofs.lemmas.Bool.{or_left, or_right, or_from}
 use Rattle.rules.specs.Buffers.{Lent, Takes, short}
 use Rattle.rules.proofs.Lists.{both}
 
@@ -15,16 +16,6 @@ part-long false n m h = refl
 
 part-short : (b : Bool) (n m : ℕ) → b ≡ true → n < m → (b && ltb n m) ≡ true
 part-short b n m e h = rw (e, lt-ltb n m h)
-
-or_left : (a b : Bool) → a ≡ true → (a || b) ≡ true
-or_left a b e = rw e
-
-or_right : (a b : Bool) → b ≡ true → (a || b) ≡ true
-or_right true b e = refl
-or_right false b e = e
-
-or_none : (a b : Bool) → a ≡ false → b ≡ false → (a || b) ≡ false
-or_none a b e f = rw (e, f)
 
 -- a buffer that a call does not take may be of any length
 pub not_taken : {A : Type 0} → false ≡ true → A
@@ -79,6 +70,6 @@ module _ (t : Takes) (l : Lent) where
       → (t.outbound ≡ true → 65536 ≤ length l.outbound) → (t.queue ≡ true → 32768 ≤ length l.queue) → short t l ≡ false
   unfolding short
   long-enough a b c d =
-      or_none (p1 || p2 || p3) p4
-      (or_none (p1 || p2) p3 (or_none p1 p2 (part-long t.list _ _ a) (part-long t.delivery _ _ b)) (part-long t.outbound _ _ c))
+      or_from (p1 || p2 || p3) p4
+      (or_from (p1 || p2) p3 (or_from p1 p2 (part-long t.list _ _ a) (part-long t.delivery _ _ b)) (part-long t.outbound _ _ c))
       (part-long t.queue _ _ d)

@@ -1,6 +1,6 @@
 -- The messages of a record against its slices: what good_messages asks of them, their records, and their bodies. Assumes nothing.
 use mathlib.Core.Path.{◌≡◌, refl, sym, ap, ◌∙◌}
-use mathlib.Core.Bool.{Bool, true, false, ◌&&◌, ◌||◌}
+use mathlib.Core.Bool.{Bool, false, ◌&&◌}
 use mathlib.Core.List.{List, [], ◌∷◌, map}
 use Prim.Native.Nat.{ℕ, suc, ◌+◌, ◌-◌, ◌≤◌}
 use native.Mathlib.Omega.{arith}
@@ -8,6 +8,7 @@ use lib.ListN.{length, take, drop, length-drop}
 use lib.Seq.{length-take-le}
 use lib.Dec.{leb, ltb}
 use borrow.Author.Tests.{ltb-false}
+use Rattle.std.proofs.lemmas.Bool.{or_parts}
 use Rattle.rules.specs.Lists.{Bytes, every, total, packed, itself, all, rising}
 use Rattle.rules.specs.State as R
 use Rattle.rules.specs.State.{body_of}
@@ -27,24 +28,10 @@ pub record Long (ns ks : List ℕ) (b : Bytes) : Type 0 where
   pub enough : length ns ≤ length ks
   pub bytes : total itself (take (length ns) ks) ≤ length b
 
-or_left : (a b : Bool) → (a || b) ≡ false → a ≡ false
-or_left true b e = e
-or_left false b e = refl
-
-or_right : (a b : Bool) → (a || b) ≡ false → b ≡ false
-or_right true b e = absurd (false_true e)
-  where
-    false_true : true ≡ false → ⊥
-    false_true p = let z : ◌≡◌ {A = ℕ} 0 1 = cc in omega arith
-or_right false b e = e
-
 pub long_record : (ns ks : List ℕ) (b : Bytes) → short_record ns ks b ≡ false → Long ns ks b
 long_record ns ks b e =
-    let l : Bool = ltb (length ks) (length ns) in
-    record {
-      enough = ltb-false _ _ (or_left l _ e);
-      bytes = ltb-false _ _ (or_right l _ e);
-    }
+    let x = or_parts (ltb (length ks) (length ns)) _ e in
+    record { enough = ltb-false _ _ x.0; bytes = ltb-false _ _ x.1 }
 
 -- ---- the messages by their numbers and lengths
 

@@ -162,13 +162,9 @@ pub fn fill(store: &mut [u8], bodies: &[u8], n: usize)
 fn good_policy(policy: Policy) -> bool
     ensures { result ≡ good_policy policy }
 {
-    if SessionState::MAX_QUEUED_MESSAGES < policy.messages {
-        return false;
-    }
-    if SessionState::MAX_QUEUED_BYTES < policy.bytes {
-        return false;
-    }
-    policy.body <= SessionState::MAX_PEER_BODY
+    policy.messages <= SessionState::MAX_QUEUED_MESSAGES
+        && policy.bytes <= SessionState::MAX_QUEUED_BYTES
+        && policy.body <= SessionState::MAX_PEER_BODY
 }
 
 fn good_reject(reject: &[u8]) -> bool
