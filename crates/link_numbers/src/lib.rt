@@ -69,8 +69,7 @@ fn put_at(words: &mut Words, from: usize, at: usize, i: usize, n: u64)
     ensures { Becomes (take i (in_use (numbers_in from at words.old)) ++ (n ∷ drop i (in_use (numbers_in from at words.old)))) from at words.old words.new }
 {
     let count = words[at] as usize;
-    words.copy_within(from + i..from + count, from + i + 1);
-    words[from + i] = n;
+    numbers::put_in_run(&mut words[from..from + count + 1], i, n);
     words[at] = count as u64 + 1;
 }
 

@@ -11,7 +11,9 @@ use Rattle.stores.proofs.Packs.{opened}
 use Rattle.stores.proofs.Seats.{Seated, seated}
 use Rattle.rules.specs.Lists.{itself, put}
 use Rattle.numbers.specs.declared.Numbers.{Numbers}
-use Rattle.numbers.specs.Seats.{in_use, seat_of, ExactNumbers, Holds}
+use Rattle.numbers.specs.Seats.{in_use, seat_of, but_last, ExactNumbers, Holds, Leads}
+use lib.Seq.{take_all, take-take}
+use Rattle.std.proofs.lemmas.List.{take-append-le}
 
 pub exact-length : (v : Numbers) → ExactNumbers v → length (in_use v) ≡ v.count
 exact-length v e = length-take-le v.count v.values (omega (arith, e.full, e.few))
@@ -20,25 +22,39 @@ exact-length v e = length-take-le v.count v.values (omega (arith, e.full, e.few)
 pub exact-holds : (v : Numbers) → ExactNumbers v → Holds (in_use v) v
 exact-holds v e = record { count = sym (exact-length v e); held = refl; exact = e }
 
+-- the first k words of a set, lent and changed
+module _ (values run : List ℕ) (k : ℕ) (few : k ≤ 512) (full : length values ≡ 512) (same : length run ≡ length (take k values)) where
+  pub leads_hold : {ns : List ℕ} {j : ℕ} → Leads ns j run → Holds ns (record { values = run ++ drop k values; count = j })
+  leads_hold {ns} {j} s =
+      let size : length run ≡ k = same ∙ length-take-le k values (omega arith) in
+      let within : j ≤ length run = omega (arith, s.count, simp length-take at (ap length s.held)) in
+      record {
+        count = s.count;
+        held = take-append-le j run (drop k values) within ∙ s.held;
+        exact = record { full = simp (length-append, length-drop) (omega (arith, size)); few = omega (arith, size) };
+      }
+
 -- ---- a number put
 
--- at an index
-module _ (v : Numbers) (n at : ℕ) (few : v.count < 512) (full : length v.values ≡ 512) (h : at ≤ v.count) where
-  pub put-at-is : (up : List ℕ) → up ≡ placed v.values (at + 1) (take (v.count - at) (drop at v.values))
-      → Holds (take at (in_use v) ++ (n ∷ drop at (in_use v))) (record { values = set up at n; count = v.count + 1 })
-  put-at-is up e =
-      let lb : length (take (v.count - at) (drop at v.values)) ≡ v.count - at = simp (length-take, length-drop) (omega arith) in
-      let size : length (in_use v) ≡ v.count = length-take-le v.count v.values (omega arith) in
-      record {
-        count = sym (simp (length-append, length-take, length-drop) (omega (arith, size)));
-        held = ap (λ (l : List ℕ). take (v.count + 1) (set l at n)) e ∙ opened v.values at v.count n h (omega arith);
-        exact =
-            record {
-              full =
-                  length-set up at n ∙ ap length e ∙ length-placed v.values (at + 1) (take (v.count - at) (drop at v.values)) (omega arith) ∙ full;
-              few = omega arith;
-            };
-      }
+-- at an index of a run whose last place is free
+pub put_run : (run up : List ℕ) (at n : ℕ) → at < length run → up ≡ placed run (at + 1) (take (length run - 1 - at) (drop at run))
+    → set up at n ≡ take at (but_last run) ++ (n ∷ drop at (but_last run))
+put_run run up at n h e =
+    let m : ℕ = length run - 1 in
+    let b : length (take (m - at) (drop at run)) ≡ m - at = simp (length-take, length-drop) (omega arith) in
+    let size : length (set up at n) ≡ length run =
+    length-set up at n ∙ ap length e ∙ length-placed run (at + 1) (take (m - at) (drop at run)) (omega arith) in
+    sym (take_all (m + 1) (set up at n) (omega arith)) ∙ ap (λ (l : List ℕ). take (m + 1) (set l at n)) e ∙ opened run at m n (omega arith) (omega arith)
+
+-- the c numbers that lead a list, and one more, in a run of its first c + 1
+pub put_leads : (l run : List ℕ) (c k at n : ℕ) → k ≡ c + 1 → k ≤ length l → at ≤ c → run ≡ take at (but_last (take k l)) ++ (n ∷ drop at (but_last (take k l)))
+    → Leads (take at (take c l) ++ (n ∷ drop at (take c l))) (c + 1) run
+put_leads l run c k at n ek m h e =
+    let ec : length (take k l) - 1 ≡ c = omega (arith, length-take-le k l m) in
+    let eb : but_last (take k l) ≡ take c l = ap (λ (j : ℕ). take j (take k l)) ec ∙ take-take c k l (omega arith) in
+    let er : run ≡ take at (take c l) ++ (n ∷ drop at (take c l)) = e ∙ ap (λ (x : List ℕ). take at x ++ (n ∷ drop at x)) eb in
+    let size : length (take at (take c l) ++ (n ∷ drop at (take c l))) ≡ c + 1 = simp (length-append, length-take, length-drop) (omega arith) in
+    record { count = sym size; held = ap (take (c + 1)) er ∙ take_all (c + 1) (take at (take c l) ++ (n ∷ drop at (take c l))) (omega arith) }
 
 -- by the place that was found
 module _ (v : Numbers) (n k : ℕ) (few : v.count ≤ 512) (full : length v.values ≡ 512) (e : k ≡ seat_of n (in_use v)) where

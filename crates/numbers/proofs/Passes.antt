@@ -6,11 +6,11 @@ use mathlib.Core.List.{List, [], ◌∷◌, ◌++◌, map}
 use Prim.Native.Nat.{ℕ, ◌+◌, ◌*◌, ◌≤◌, ◌<◌}
 use native.Mathlib.Omega.{arith}
 use native.Mathlib.Numerals.{add-one}
-use lib.ListN.{length, take, drop, get_or, set, length-append, length-take, length-drop}
+use lib.ListN.{length, take, drop, get_or, set}
 use lib.Seq.{take-suc, take_all, take-length, length-take-le}
 use lib.Dec.{ltb, leb}
 use borrow.Author.Tests.{le-leb, lt-leb}
-use Rattle.std.proofs.lemmas.List.{take-append-le}
+use Rattle.numbers.proofs.Laws.{leads_hold}
 use Rattle.stores.specs.Placed.{placed}
 use Rattle.stores.proofs.Packs.{map-append}
 use Rattle.stores.proofs.Sifts.{Sifted, sifted_none, sifted_at, sifted_more, sifted_all, kept_next}
@@ -22,7 +22,7 @@ use Rattle.events.specs.Written.{Listed}
 use Rattle.events.proofs.Laws.{listed-none, listed_then}
 use Rattle.numbers.specs.declared.Numbers.{Numbers}
 use Rattle.numbers.specs.declared.ReleasedRun.{ReleasedRun}
-use Rattle.numbers.specs.Seats.{in_use, step, Holds, Leads, ReleasesRun, ReleasesAcks}
+use Rattle.numbers.specs.Seats.{in_use, step, Leads, ReleasesRun, ReleasesAcks}
 
 -- ---- what stays
 
@@ -147,21 +147,9 @@ module _ {ns list₀ : List ℕ} {n : ℕ} {list : List ℕ} {i : ℕ} (s : List
       let e : i ≡ length ns = omega (arith, s.within) in
       subst (λ (l : List ℕ). Listed (map send_ack l) list₀ n list (n + length ns)) (take-length ns) (subst (λ (j : ℕ). Listed (map send_ack (take j ns)) list₀ n list (n + j)) e s.listing.listed)
 
--- ---- the numbers in use, as a run that has changed in place
+-- ---- the numbers in use, as a run that was lent
 
-module _ (v : Numbers) (run : List ℕ) (few : v.count ≤ 512) (full : length v.values ≡ 512) (same : length run ≡ length (in_use v)) where
-  size : length (in_use v) ≡ v.count
-  size = length-take-le v.count v.values (omega arith)
-
-  pub leads_hold : {ns : List ℕ} {k : ℕ} → Leads ns k run → Holds ns (record { values = run ++ drop v.count v.values; count = k })
-  leads_hold {ns} {k} s =
-      let within : k ≤ length run = omega (arith, s.count, simp length-take at (ap length s.held)) in
-      record {
-        count = s.count;
-        held = take-append-le k run (drop v.count v.values) within ∙ s.held;
-        exact = record { full = simp (length-append, length-drop) (omega (arith, size)); few = omega (arith, size) };
-      }
-
-  pub released_acks : {upto n : ℕ} {l l' : List ℕ} {r : ReleasedRun} → ReleasesRun upto (in_use v) l n run r l'
-      → ReleasesAcks upto v l n (record { numbers = record { values = run ++ drop v.count v.values; count = r.count }; events = r.events }) l'
-  released_acks s = record { holds = leads_hold s.leads; few = omega (arith, size, s.few); listed = s.listed }
+pub released_acks : (v : Numbers) (run : List ℕ) → v.count ≤ 512 → length v.values ≡ 512 → length run ≡ length (in_use v) → {upto n : ℕ} {l l' : List ℕ} {r : ReleasedRun} → ReleasesRun upto (in_use v) l n run r l'
+    → ReleasesAcks upto v l n (record { numbers = record { values = run ++ drop v.count v.values; count = r.count }; events = r.events }) l'
+released_acks v run few full same s =
+    record { holds = leads_hold v.values run v.count few full same s.leads; few = omega (arith, length-take-le v.count v.values (omega arith), s.few); listed = s.listed }

@@ -1,5 +1,5 @@
 -- Rising arrays of numbers. Assumes nothing.
-use Rattle.std.specs.Prelude.{ℕ, ◌+◌, ◌≤◌, ◌≡◌, Bool, List, map, length, take, ltb, if◌then◌else◌}
+use Rattle.std.specs.Prelude.{ℕ, ◌+◌, ◌-◌, ◌≤◌, ◌≡◌, Bool, List, map, length, take, ltb, if◌then◌else◌}
 use Rattle.stores.specs.Fronts.{front}
 use Rattle.rules.specs.Lists.{kept}
 use Rattle.rules.specs.Commits.{releases_ack}
@@ -33,6 +33,10 @@ seat_of n ns = front (under n) ns
 -- how far a cursor goes on with an element that stays, or goes
 abbrev pub step : Bool → ℕ
 step t = if t then 1 else 0
+
+-- a run without its last place
+abbrev pub but_last : List ℕ → List ℕ
+but_last run = take (length run - 1) run
 
 -- the numbers ns lead a run, and there are k of them
 pub record Leads (ns : List ℕ) (k : ℕ) (run : List ℕ) : Type 0 where

@@ -9,7 +9,7 @@ ghost use Rattle.rules.specs.Commits.{releases_ack};
 ghost use Rattle.rules.specs.Events.{send_ack};
 ghost use Rattle.rules.specs.Sound.{at_most, ascending};
 ghost use Rattle.events.specs.Written.{Listed};
-ghost use Rattle.numbers.specs.Seats.{in_use, seat_of, Holds, Leads, ReleasesRun, ReleasesAcks};
+ghost use Rattle.numbers.specs.Seats.{in_use, seat_of, but_last, Holds, Leads, ReleasesRun, ReleasesAcks};
 
 use rules::EventCode;
 
@@ -59,6 +59,16 @@ pub fn run_ascends(run: &[u64]) -> bool
         [] => true,
         [first, rest @ ..] => run_rises(rest, *first),
     }
+}
+
+// Puts n at index at of a run whose last place is free: the numbers from there on move up by one.
+pub fn put_in_run(run: &mut [u64], at: usize, n: u64)
+    requires { at < length run.old }
+    ensures { run.new ≡ take at (but_last run.old) ++ (n ∷ drop at (but_last run.old)) }
+{
+    let behind = run.len() - 1 - at;
+    stores::move_run(run, at + 1, at, behind);
+    run[at] = n;
 }
 
 // Moves the numbers of a run that are not n to its front, and counts them.
@@ -164,12 +174,9 @@ fn put_at(v: Numbers, n: u64, at: usize) -> Numbers
     ensures { Holds (take at (in_use v) ++ (n ∷ drop at (in_use v))) result }
 {
     let mut values = v.values;
-    stores::move_run(&mut values, at + 1, at, v.count - at);
-    values[at] = n;
-    Numbers {
-        values,
-        count: v.count + 1,
-    }
+    let count = v.count + 1;
+    put_in_run(&mut values[..count], at, n);
+    Numbers { values, count }
 }
 
 // With the number n, at its place; a number that is there stays.

@@ -1,6 +1,6 @@
 use Rattle.rules.specs.Acks.{differs_from}
-use Rattle.link_numbers.proofs.Changes.{run_becomes}
+use Rattle.link_numbers.proofs.Changes.{run_keeps}
 use Rattle.link_numbers.proofs.take_out.Goals as goal
 
 pub returns : goal.returns
-returns c = run_becomes c.requires _ c.drop_from_run-left.auto.run (differs_from c.args.n) c.drop_from_run-left.ensures
+returns c = run_keeps c.requires _ c.drop_from_run-left.auto.run (differs_from c.args.n) c.drop_from_run-left.ensures

@@ -1,6 +1,10 @@
+use mathlib.Core.Path.{refl}
+use Prim.Native.Nat.{◌+◌}
 use native.Mathlib.Omega.{arith}
-use Rattle.numbers.proofs.Laws.{put-at-is}
+use Rattle.numbers.proofs.Laws.{leads_hold, put_leads}
 use Rattle.numbers.proofs.put_at.Goals as goal
 
 pub returns : goal.returns
-returns c = put-at-is c.args.v c.args.n c.args.at c.requires.1 (omega arith) c.requires.0 c.move_run.new.store c.move_run.ensures
+returns c =
+    let a = c.args in
+    leads_hold a.v.values _ (a.v.count + 1) (omega arith) (omega arith) c.put_in_run.auto.run (put_leads a.v.values _ a.v.count (a.v.count + 1) a.at a.n refl (omega arith) c.requires.0 c.put_in_run.ensures)
