@@ -30,8 +30,8 @@ use Rattle.parts.specs.Codes.{answer_of}
 use Rattle.parts.specs.Parts.{Parts, parts, at, flag, outbox_in, opened_of}
 use Rattle.parts.specs.Driven.{Driven}
 use Rattle.parts.proofs.Drives.{refuses}
+use Rattle.link_sound.proofs.Lengths.{bytes-long}
 use Rattle.link_sound.proofs.Parts.{usable}
-use Rattle.link_setup.proofs.Stages.{long-bytes}
 use Rattle.link_sending.specs.Sends.{Ready}
 use Rattle.link_handoffs.specs.Commands.{NotCommanding, Enters, Starts, ComesIn, HoldingIn}
 use Rattle.link_handoffs.proofs.Steps.{started, still_checked, still_low}
@@ -89,7 +89,7 @@ module _ (w h b : List ℕ) (t : Float) {n : ℕ} (o : Bytes) (ready : Ready (pa
   unfolding opened_of
   holding_in e =
       let g : Holding (opened_of (parts w h b t)) (length o) = holding (opened_of (parts w h b t)) false refl o (sym ready.checked.is) ready.checked.full ready.outbound e in
-      record { sound = g.sound; exact = g.exact; long = long-bytes w h b t ready.checked.full; within = omega (arith, g.within, ready.checked.full.handoff); present = e }
+      record { sound = g.sound; exact = g.exact; long = bytes-long w h b t ready.checked.full; within = omega (arith, g.within, ready.checked.full.handoff); present = e }
 
 -- a step comes to the same for the command that there is
 pub by_command : (restoring : Bool) {c d : Option Command} → c ≡ d → {p p' : Parts} {l l' : List ℕ} {o o' : Bytes} {y : LinkAnswer} → ComesIn (commanding restoring d) p p' l o y l' o'

@@ -33,11 +33,12 @@ use Rattle.parts.specs.Parts.{Parts, parts, at, flag, outbox_in, clock_in, codes
 use Rattle.parts.proofs.Fields.{Agree, outbox-same, queue-same, numbers-same, codes_same, policy-same, reject-same}
 use Rattle.parts.proofs.Opened.{opened_as}
 use Rattle.parts.proofs.After.{agree_all}
+use Rattle.link_sound.proofs.Lengths.{words-long, bytes-long}
 use Rattle.link_sound.proofs.Parts.{usable}
 use Rattle.link_sending.specs.Sends.{Ready, AllocatesIn}
 use Rattle.link_sending.proofs.Sends.{raised, left, clock-raised}
 use Rattle.link_setup.specs.Steps.{Stages}
-use Rattle.link_setup.proofs.Stages.{stage_is, restaged, stages_apart, stage-starts, long-words, long-bytes}
+use Rattle.link_setup.proofs.Stages.{stage_is, restaged, stages_apart, stage-starts}
 use Rattle.link_setup.proofs.Joins.{grown, joins, joins_not}
 use Rattle.link_starts.specs.Steps.{Between}
 use Rattle.link_restores.specs.Handed.{HandedIn}
@@ -77,7 +78,7 @@ module _ (w h b : List ℕ) (t : Float) (k : Checked (opened_of (parts w h b t))
 
   pub started : (restoring : Bool) {h' b' : List ℕ} → Starts restoring h b h' b' → opened_of (parts w h' b' t) ≡ starting_in restoring (opened_of (parts w h b t))
   started true {h'} {b'} s =
-      let lb : 4936 ≤ length b = long-bytes w h b t k.full in
+      let lb : 4936 ≤ length b = bytes-long w h b t k.full in
       let g : Stages (at b 768) 2 no_terms h b h' b' = s.starts refl in
       restaged w h b h' b' t lb (stages_apart h b lh lb (usable w h b t k).codes g) (at b 768) Started (stage-starts h b lh lb (usable w h b t k).codes g)
       ∙ ap (λ (d : ℕ). staged d Started (opened_of (parts w h b t))) disposition_in
@@ -210,8 +211,8 @@ module _ (w h b : List ℕ) (t : Float) (l : List ℕ) (o body : Bytes) (id : �
         → {y : LinkAnswer} {l' : List ℕ} → AsksIn (clock_in (raised h h₁) t) l y l' → (restoring : Bool)
         → ComesIn (commanding restoring (some c)) (parts w h b t) (parts w₂ (raised h h₁) b₂ t) l o y l' o'
     goes {w₁} {h₁} {b₁} a {w₂} {b₂} g {l' = l'} q restoring =
-        let lw : 1296 ≤ length w = long-words w h b t k.full in
-        let lb : 4936 ≤ length b = long-bytes w h b t k.full in
+        let lw : 1296 ≤ length w = words-long w h b t k.full in
+        let lb : 4936 ≤ length b = bytes-long w h b t k.full in
         let joined : SessionState = staged s.stage.disposition s.stage.setup (grown w h b t k lh a) in
         record {
           returned = record { session = handing (handoff_in w₂ b₂) joined; answer = Done; events = q.events };

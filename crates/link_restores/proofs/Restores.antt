@@ -7,7 +7,7 @@ use mathlib.Core.List.{List}
 use native.Mathlib.Omega.{arith}
 use lib.Dec.{eqb}
 use lib.Ieee.{Float}
-use lib.ListN.{length, take, length-take, length-drop}
+use lib.ListN.{length, take}
 use Rattle.rules.specs.declared.Answer.TheVariants.{Done, Refused}
 use Rattle.rules.specs.declared.Refusal.{Refusal}
 use Rattle.rules.specs.declared.Refusal.TheVariants.{ShortBuffer, UnknownCode, BadRecord, HandoffTooLong, RestoreTooLate, OtherHandoff}
@@ -40,6 +40,7 @@ use Rattle.parts.proofs.Fields.{Agree, agree_past, outbox-same, queue-same, numb
 use Rattle.parts.proofs.After.{agree_all}
 use Rattle.parts.proofs.Opened.{opened_as}
 use Rattle.parts.proofs.Drives.{changes, refuses}
+use Rattle.link_sound.proofs.Lengths.{words-long, bytes-long}
 use Rattle.link_sound.proofs.Parts.{usable}
 use Rattle.link_starts.specs.Steps.{Between, TakingIn, TakenIn}
 use Rattle.link_restores.specs.Handed.{HandedIn}
@@ -145,12 +146,10 @@ module _ (x : Reliable) (ns ks : List ℕ) (bodies : Bytes) (given : Option Book
   s = opened_of (parts w h b t)
 
   lw : 1296 ≤ length w
-  unfolding opened_of
-  lw = omega (arith, simp (length-take, length-drop) at ready.full.retry)
+  lw = words-long w h b t ready.full
 
   lb : 4936 ≤ length b
-  unfolding opened_of
-  lb = omega (arith, simp (length-take, length-drop) at ready.full.reject)
+  lb = bytes-long w h b t ready.full
 
   codes : good_codes (codes_in h b) ≡ true
   codes = (usable w h b t (record { is = sym ready.sound; full = ready.full })).codes

@@ -29,11 +29,12 @@ use Rattle.parts.proofs.Opened.{opened_as}
 use Rattle.parts.proofs.After.{agree_all}
 use Rattle.parts.proofs.Drives.{changes}
 use Rattle.link_queue.specs.Steps.{Requeued}
+use Rattle.link_sound.proofs.Lengths.{bytes-long}
 use Rattle.link_draining.specs.Steps.{Discards}
 use Rattle.link_sound.proofs.Parts.{usable}
 use Rattle.link_setup.specs.Steps.{Stages}
 use Rattle.link_retires.specs.Steps.{Retiring, RetiresIn, ForgetsIn}
-use Rattle.link_setup.proofs.Stages.{Restaged, stage_is, restaged, stages_apart, stage-retires, long-bytes}
+use Rattle.link_setup.proofs.Stages.{Restaged, stage_is, restaged, stages_apart, stage-retires}
 
 -- ---- no handoff, and an empty queue
 
@@ -54,7 +55,7 @@ module _ (w h b : List ℕ) (q : Bytes) (ready : Retiring w h b (length q)) wher
     lw = (usable w h b t k).words
 
     lb : 4936 ≤ length b
-    lb = long-bytes w h b t k.full
+    lb = bytes-long w h b t k.full
 
     apart : Restaged h b h' b₁
     apart = stages_apart h b lh lb (usable w h b t k).codes s

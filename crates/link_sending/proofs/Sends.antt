@@ -5,7 +5,7 @@ use mathlib.Core.Bool.{Bool, true}
 use mathlib.Core.List.{List}
 use native.Mathlib.Omega.{arith}
 use lib.Ieee.{Float}
-use lib.ListN.{length, set, length-set, length-take, length-drop}
+use lib.ListN.{length, set, length-set}
 use lib.Seq.{get_or-set_same, get_or-set_other}
 use Rattle.rules.specs.declared.Answer.TheVariants.{Number, Refused}
 use Rattle.rules.specs.declared.Refusal.{Refusal}
@@ -29,6 +29,7 @@ use Rattle.parts.proofs.After.{Kept, other, after, agree_all}
 use Rattle.parts.proofs.Drives.{changes, refuses}
 use Rattle.link_outbox.specs.Steps.{Joins}
 use Rattle.link_outbox.proofs.Records.{past_same}
+use Rattle.link_sound.proofs.Lengths.{words-long, bytes-long}
 use Rattle.link_entry.proofs.Entered.{checked}
 use Rattle.link_sending.specs.Sends.{Ready, AllocatesIn}
 
@@ -78,12 +79,10 @@ module _ (w h b : List ℕ) (t : Float) {o body : Bytes} (lw : 1296 ≤ length w
 
 module _ (w h b : List ℕ) (t : Float) (l : List ℕ) (o body : Bytes) (ready : Ready (parts w h b t) (length l) (length o)) where
   lw : 1296 ≤ length w
-  unfolding opened_of
-  lw = omega (arith, simp (length-take, length-drop) at ready.checked.full.retry)
+  lw = words-long w h b t ready.checked.full
 
   lb : 4936 ≤ length b
-  unfolding opened_of
-  lb = omega (arith, simp (length-take, length-drop) at ready.checked.full.reject)
+  lb = bytes-long w h b t ready.checked.full
 
   pub went : length h ≡ 772 → {w' h' b' : List ℕ} {o' : Bytes} → AllocatesIn body w h b o (Ok tt) w' h' b' o' → {k : Clock} → k ≡ clock_in (raised h h') t
       → {l' : List ℕ} {n : ℕ} → Listed (asked k) l 0 l' n → {y : LinkAnswer} → y ≡ answer_of (Number (at w 0)) n

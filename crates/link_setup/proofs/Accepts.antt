@@ -31,11 +31,12 @@ use Rattle.parts.specs.Codes.{answer_of, stage_of}
 use Rattle.parts.specs.Parts.{Parts, parts, at, codes_in, opened_of}
 use Rattle.parts.specs.Driven.{Driven}
 use Rattle.parts.proofs.Drives.{changes, refuses}
+use Rattle.link_sound.proofs.Lengths.{bytes-long}
 use Rattle.link_sound.proofs.Parts.{usable}
 use Rattle.link_sending.specs.Sends.{AllocatesIn}
 use Rattle.link_sending.proofs.Sends.{raised}
 use Rattle.link_setup.specs.Steps.{Stages, Accepting, NotAccepting, AcceptEnters}
-use Rattle.link_setup.proofs.Stages.{is-fresh, not_fresh, restaged, stages_apart, stage-waits, long-bytes}
+use Rattle.link_setup.proofs.Stages.{is-fresh, not_fresh, restaged, stages_apart, stage-waits}
 use Rattle.link_setup.proofs.Joins.{joins, joins_not, joined_waiting}
 
 -- ---- the tests
@@ -99,7 +100,7 @@ module _ (w h b : List ℕ) (t : Float) (terms : Terms) (o body : Bytes) (ready 
   pub accepts_it : length h ≡ 772 → terms.initiator ≡ false → {h' b' : List ℕ} → Stages 1 1 terms h b h' b' → {y : LinkAnswer} → y ≡ answer_of Done 0
       → Driven (parts w h b t) (parts w h' b' t) y (λ s r. CalledWithOutboundAlone (accepts terms body) s o r o)
   accepts_it lh e {h'} {b'} s f =
-      let lb : 4936 ≤ length b = long-bytes w h b t k.full in
+      let lb : 4936 ≤ length b = bytes-long w h b t k.full in
       changes (parts w h b t) (sym k.is) (parts w h' b' t) (staged 1 (Waiting terms) (opened_of (parts w h b t)))
       (restaged w h b h' b' t lb (stages_apart h b lh lb (usable w h b t k).codes s) 1 (Waiting terms) (stage-waits h b lh lb (usable w h b t k).codes s))
       Done 0 f

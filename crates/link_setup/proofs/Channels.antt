@@ -24,9 +24,10 @@ use Rattle.parts.specs.Codes.{answer_of, stage_of}
 use Rattle.parts.specs.Parts.{Parts, parts, at, codes_in, opened_of}
 use Rattle.parts.specs.Driven.{Driven}
 use Rattle.parts.proofs.Drives.{leaves, changes, refuses}
+use Rattle.link_sound.proofs.Lengths.{bytes-long}
 use Rattle.link_sound.proofs.Parts.{usable}
 use Rattle.link_setup.specs.Steps.{Stages}
-use Rattle.link_setup.proofs.Stages.{low-setup, stage_is, is-fresh, is-waiting, is-started, is_retired, restaged, stages_apart, stage-waits, long-bytes}
+use Rattle.link_setup.proofs.Stages.{low-setup, stage_is, is-fresh, is-waiting, is-started, is_retired, restaged, stages_apart, stage-waits}
 
 -- ---- by the setup that there is
 
@@ -70,7 +71,7 @@ module _ (terms : Terms) (w h b : List ℕ) (t : Float) (k : Checked (opened_of 
   pub by_none : length h ≡ 772 → at b 769 ≡ 0 → {h' b' : List ℕ} → Stages (at b 768) 1 terms h b h' b' → {y : LinkAnswer} → y ≡ answer_of Done 0
       → Driven (parts w h b t) (parts w h' b' t) y (λ s r. CalledAlone (prepares_channel terms) s r)
   by_none lh e {h'} {b'} s f =
-      let lb : 4936 ≤ length b = long-bytes w h b t k.full in
+      let lb : 4936 ≤ length b = bytes-long w h b t k.full in
       prepare_fresh terms (parts w h b t) k (setup_in (is-fresh (codes_in h b) (usable w h b t k).codes e)) (parts w h' b' t)
       (restaged w h b h' b' t lb (stages_apart h b lh lb (usable w h b t k).codes s) (at b 768) (Waiting terms) (stage-waits h b lh lb (usable w h b t k).codes s)
       ∙ ap (λ (d : ℕ). staged d (Waiting terms) (opened_of (parts w h b t))) (sym disposition_in))

@@ -20,11 +20,12 @@ use Rattle.parts.specs.Codes.{good_codes, stage_of}
 use Rattle.parts.specs.Parts.{parts, at, outbox_in, waiting_in, retry_in, codes_in, handoff_in, opened_of}
 use Rattle.parts.proofs.Fields.{agree_past, agree_set, agree_then, codes_same}
 use Rattle.parts.proofs.After.{other}
+use Rattle.link_sound.proofs.Lengths.{words-long, bytes-long}
 use Rattle.link_sound.proofs.Parts.{usable}
 use Rattle.link_sending.specs.Sends.{AllocatesIn}
 use Rattle.link_sending.proofs.Sends.{raised, left}
 use Rattle.link_setup.specs.Steps.{Stages}
-use Rattle.link_setup.proofs.Stages.{restaged, stages_apart, stage-waits, disposition_apart, stage_disposed, long-words, long-bytes}
+use Rattle.link_setup.proofs.Stages.{restaged, stages_apart, stage-waits, disposition_apart, stage_disposed}
 
 module _ (w h b : List ℕ) (t : Float) (k : Checked (opened_of (parts w h b t)) true) where
   pub low_half : (opened_of (parts w h b t)).clock.generation < 4294966000 → at h 768 < 4294966000
@@ -46,14 +47,14 @@ module _ (w h b : List ℕ) (t : Float) (k : Checked (opened_of (parts w h b t))
           (handoff_in w b)
 
       grows : opened_of (parts w' (raised h h') b' t) ≡ grown
-      grows = left w h b t (long-words w h b t k.full) (long-bytes w h b t k.full) lh a
+      grows = left w h b t (words-long w h b t k.full) (bytes-long w h b t k.full) lh a
 
       pub joins : (d : ℕ) → Joins body d (opened_of (parts w h b t)) o (Ok (staged d (opened_of (parts w h b t)).stage.setup grown)) o'
       unfolding opened_of
       joins d = Steps.joins a.allocates
 
       lb : 4936 ≤ length b'
-      lb = omega (arith, a.bytes.size, long-bytes w h b t k.full)
+      lb = omega (arith, a.bytes.size, bytes-long w h b t k.full)
 
       lr : length (raised h h') ≡ 772
       lr = length-set h' 768 (at h 768 + 1) ∙ a.halves.size ∙ lh

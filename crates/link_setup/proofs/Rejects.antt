@@ -25,9 +25,9 @@ use Rattle.parts.specs.Codes.{answer_of}
 use Rattle.parts.specs.Parts.{Parts, parts, at, clock_in, reject_in, opened_of}
 use Rattle.parts.specs.Driven.{Driven}
 use Rattle.parts.proofs.Drives.{changes, refuses}
+use Rattle.link_sound.proofs.Lengths.{words-long, bytes-long}
 use Rattle.link_sending.specs.Sends.{Ready, AllocatesIn}
 use Rattle.link_sending.proofs.Sends.{raised, clock-raised}
-use Rattle.link_setup.proofs.Stages.{long-words, long-bytes}
 use Rattle.link_setup.proofs.Joins.{joins, joins_not, joined_under}
 
 -- the reject body lies within its array
@@ -51,8 +51,8 @@ module _ (w h b : List ℕ) (t : Float) (l : List ℕ) (o : Bytes) (ready : Read
       → Driven (parts w h b t) (parts w' (raised h h') (set b' 768 4) t) y (λ s r. CalledWithOutbound rejects s l o r l' o')
   unfolding opened_of
   rejects_it lh {w'} {h'} {b'} {o'} a {l'} {n} li f =
-      let lw : 1296 ≤ length w = long-words w h b t k.full in
-      let lb : 4936 ≤ length b = long-bytes w h b t k.full in
+      let lw : 1296 ≤ length w = words-long w h b t k.full in
+      let lb : 4936 ≤ length b = bytes-long w h b t k.full in
       changes (parts w h b t) (sym k.is) (parts w' (raised h h') (set b' 768 4) t) _ (joined_under w h b t k lh a 4) Done n f
       (λ d q lq. L.comes rejects_plain (opened_of (parts w h b t)) l d o q (λ x. ready.list) (sym k.is) k.full ready.outbound lq (rejected (joins w h b t k lh a 4) (record { is = refl; listed = subst (λ (c : Clock). Listed (asked c) l 0 l' n) (clock-raised w h b t lw lb lh a) li })) (reject-goes (state_of (opened_of (parts w h b t)) o q) ready.low) is-taken)
 

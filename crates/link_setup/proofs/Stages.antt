@@ -190,16 +190,6 @@ stage_disposed h b d lb good =
     let e : codes_in h (set b 768 d) ≡ k = rw (x, y, i, m, f) in
     ap stage_of e ∙ stage_is k good ∙ sym (ap (λ (z : Stage). under d z.setup z) (stage_is (codes_in h b) good))
 
--- the lengths that the arrays of an open session need
-module _ (w h b : List ℕ) (t : Float) (full : Full (opened_of (parts w h b t))) where
-  pub long-words : 1296 ≤ length w
-  unfolding opened_of
-  long-words = omega (arith, simp (length-take, length-drop) at full.retry)
-
-  pub long-bytes : 4936 ≤ length b
-  unfolding opened_of
-  long-bytes = omega (arith, simp (length-take, length-drop) at full.reject)
-
 -- a test has one answer
 pub never : {A : Type 0} {x : Bool} → x ≡ true → x ≡ false → A
 never p q = absurd (true≢false (sym p ∙ q))
