@@ -64,7 +64,8 @@ fn handed(id: u64, number: u64, body: &[u8]) -> TerminalHandoff
     }
 }
 
-// The size that counts: no command has none. Beside `restores::size_of`, which is of a Given: a size shared would want a trait over the two.
+// The size that counts: no command has none. Kept beside `restores::size_of`, which is of a Given. One for both would want a trait over the two types. Tried:
+// `map_or(0, |c| c.body.len())` at the calls; each of the proofs that use the size would first have to say what the closure gives.
 pub fn size_of(command: Option<Command>) -> usize
     ensures { result ≡ command_size (command_in command.entry) }
 {

@@ -122,7 +122,7 @@ fn agrees(h: TerminalHandoff, given: Option<Given>) -> bool
     }
 }
 
-// The size that counts: no handoff has none. Beside `handoffs::size_of`, which is of a Command: a size shared would want a trait over the two.
+// The size that counts: no handoff has none. Kept beside `handoffs::size_of`, which is of a Command, for the reason that stands there.
 pub fn size_of(given: Option<Given>) -> usize
     ensures { result ≡ handoff_size (given_if given.entry) }
 {
