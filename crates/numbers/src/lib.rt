@@ -85,7 +85,7 @@ pub fn drop_from_run(run: &mut [u64], n: u64) -> usize
 }
 
 // Lists a number that a commit up to upto releases.
-pub fn list_one(upto: u64, x: u64, list: &mut [u64], n: usize) -> usize
+fn list_one(upto: u64, x: u64, list: &mut [u64], n: usize) -> usize
     requires { 4 * n + 4 ≤ length list.old }
     ensures { Listed (map send_ack (kept (releases_ack upto) (x ∷ []))) list.old n list.new result }
 {
