@@ -20,7 +20,7 @@ use Rattle.outbox.specs.declared.Unacked.{Unacked}
 use Rattle.outbox.specs.View.{len_u, unacked, used_u, end_u, blank_u, ExactOutbox}
 use Rattle.outbox.specs.Records.{survives_u}
 use Rattle.outbox.specs.Sweeps.{left}
-use Rattle.outbox.proofs.Sweeps.{placed_same}
+use Rattle.stores.proofs.Laws.{placed_same}
 use Rattle.parts.specs.Seats.{seats}
 use Rattle.parts.specs.Parts.{at, unacked_at, outbox_in}
 use Rattle.parts.proofs.Seats.{length-seats, seats_of, take-seats}

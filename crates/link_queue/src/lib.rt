@@ -2,7 +2,6 @@
 #![tactic(auto)]
 
 ghost use Rattle.std.specs.Prelude.{◌≡◌, true, List, [], ℕ, ◌+◌, ◌-◌, ◌≤◌, length, take, drop, replicate};
-ghost use Rattle.stores.specs.Placed.{placed};
 ghost use Rattle.rules.specs.Lists.{Bytes, any, put};
 ghost use Rattle.rules.specs.State.{is_frame, frame_number};
 ghost use Rattle.queue.specs.View.{frames_of, ExactQueue};
@@ -99,17 +98,6 @@ pub fn join(
     bytes[parts::QUEUED_KINDS + n] = kind;
 }
 
-// The bodies from index from up to index end move up by n bytes. No twin of `stores::move_run`: that copies them onto themselves where n is 0.
-fn raise_bodies(store: &mut [u8], from: usize, end: usize, n: usize)
-    requires { (from ≤ end) × (end + n ≤ length store.old) }
-    ensures { store.new ≡ placed store.old (from + n) (take (end - from) (drop from store.old)) }
-{
-    if n == 0 {
-        return;
-    }
-    stores::move_run(store, from + n, from, end - from);
-}
-
 // A frame goes in at index k; the later ones, and their bytes, move up.
 fn insert_at(
     words: &mut Words,
@@ -128,7 +116,7 @@ fn insert_at(
     let count = words[parts::QUEUED] as usize;
     let from = start(halves, k);
     let end = start(halves, count);
-    raise_bodies(store, from, end, n);
+    stores::move_run(store, from + n, from, end - from);
     stores::copy_in(store, from, body);
     link_moves::raise(
         words,
@@ -167,21 +155,7 @@ pub fn insert(
 
 // ---- taken out
 
-// The bodies from index from up to index end move to the front, and what they leave is cleared. No twin of `outbox::lower`: that moves one body and clears
-// nothing.
-fn lower_bodies(store: &mut [u8], from: usize, end: usize)
-    requires { (from ≤ end) × (end ≤ length store.old) }
-    ensures { store.new ≡ placed (placed store.old 0 (take (end - from) (drop from store.old))) (end - from) (replicate (end - (end - from)) 0) }
-{
-    if from == 0 {
-        return;
-    }
-    let n = end - from;
-    stores::move_run(store, 0, from, n);
-    stores::clear(store, n, end);
-}
-
-// All frames go. No twin of `stores::clear`, which clears their bodies: the count falls as well. Nor `shed` of all, which would look for the others.
+// All frames go. No twin of `stores::clear`, which it calls: the count is set too. `shed` of all would sum the lengths twice.
 pub fn clear(words: &mut Words, halves: &Halves, bytes: &Bytes, store: &mut [u8])
     requires { ExactQueue (queue_in words.old halves.now bytes.now) (length store.old) }
     ensures { Requeued [] words.old halves.now bytes.now store.old words.new halves.now bytes.now store.new }
@@ -200,8 +174,10 @@ fn shed(words: &mut Words, halves: &mut Halves, bytes: &mut Bytes, store: &mut [
     let count = words[parts::QUEUED] as usize;
     let from = start(halves, k);
     let end = start(halves, count);
+    let n = end - from;
     let left = count - k;
-    lower_bodies(store, from, end);
+    stores::move_run(store, 0, from, n);
+    stores::clear(store, n, end);
     link_moves::lower(
         words,
         parts::QUEUED_NUMBERS,

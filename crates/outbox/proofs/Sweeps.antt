@@ -7,7 +7,7 @@ use Prim.Native.Nat.{ℕ, ◌+◌, ◌-◌, ◌≤◌, ◌<◌}
 use native.Mathlib.Omega.{arith}
 use native.Mathlib.Nat.{add-zero, zero-add}
 use mir.Val.{bool_byte}
-use lib.ListN.{length, take, drop, get_or, set, replicate, length-take, length-drop, length-replicate, length-set, take-append-drop}
+use lib.ListN.{length, take, drop, get_or, set, replicate, length-take, length-drop, length-replicate, length-set}
 use lib.Seq.{slice, drop-drop, length-take-le, take_at, take-set-le}
 use Rattle.stores.specs.Packed.{cut}
 use Rattle.rules.specs.Buffers.{repacked}
@@ -24,17 +24,6 @@ use Rattle.outbox.specs.View.{len_u, unacked, unacked_of, end_u, blank_u, ExactO
 use Rattle.outbox.specs.Records.{survives_u}
 use Rattle.outbox.specs.Steps.{Left}
 use Rattle.outbox.specs.Sweeps.{Sweep, stay, todo, ends, left, Sweeping, Swept}
-
--- a body that is in its place
-pub placed_same : (s : Bytes) (i n : ℕ) → i + n ≤ length s → s ≡ placed s i (take n (drop i s))
-unfolding placed
-placed_same s i n h =
-    let l : length (take n (drop i s)) ≡ n = simp (length-take, length-drop) (omega arith) in
-    sym
-    (ap (λ (k : ℕ). take i s ++ (take n (drop i s) ++ drop (i + k) s)) l
-    ∙ ap (λ (t : Bytes). take i s ++ (take n (drop i s) ++ t)) (sym (drop-drop n i s))
-    ∙ ap (λ (t : Bytes). take i s ++ t) (take-append-drop n (drop i s))
-    ∙ take-append-drop i s)
 
 module _ (p : R.Unacked → Bool) (m : R.Unacked) (ms : List R.Unacked) where
   kept_in : p m ≡ true → kept p (m ∷ ms) ≡ m ∷ kept p ms

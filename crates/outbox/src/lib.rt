@@ -135,24 +135,13 @@ pub fn keeps(u: Unacked, ack: u64) -> bool
     ack < u64::from(u.number) || u.pending || u.unsent
 }
 
-// Moves a body down. No twin of `stores::move_run`: that copies a body that is in its place onto itself, and here it is not touched.
-fn lower(store: &mut [u8], to: usize, from: usize, n: usize)
-    requires { (to ≤ from) × (from + n ≤ length store.old) }
-    ensures { store.new ≡ placed store.old to (take n (drop from store.old)) }
-{
-    if to == from {
-        return;
-    }
-    stores::move_run(store, to, from, n);
-}
-
 // Where the body of the next record goes, by whether this one stays: if so, its body has moved down.
 pub fn lower_if(stays: bool, store: &mut [u8], to: usize, from: usize, n: usize) -> usize
     requires { (to ≤ from) × (from + n ≤ length store.old) }
     ensures { Lowers stays to from n store.old store.new result }
 {
     if stays {
-        lower(store, to, from, n);
+        stores::move_run(store, to, from, n);
         return to + n;
     }
     to
