@@ -10,7 +10,7 @@ use native.Mathlib.Omega.{arith}
 use lib.Ieee.{Float}
 use lib.ListN.{length}
 use lib.Dec.{leb}
-use Rattle.std.proofs.lemmas.Bool.{leb-true, leb-false}
+use Rattle.std.proofs.lemmas.Bool.{leb-true}
 use Rattle.rules.specs.declared.Answer.TheVariants.{Flag}
 use Rattle.rules.specs.Clock.{held_back}
 use Rattle.rules.specs.Calls.{connects}
@@ -28,15 +28,6 @@ use Rattle.parts.specs.Driven.{Driven}
 use Rattle.parts.proofs.Drives.{leaves, changes}
 use Rattle.link_replays.specs.Connects.{Ready}
 
--- ---- the code of an event
-
-first : (event : Connectivity) → 1 ≤ connectivity_number event
-first Disconnected = omega arith
-first Reconnected = omega arith
-first PeerUnavailable = omega arith
-first Registered = omega arith
-first PeerAvailable = omega arith
-
 last : (event : Connectivity) → connectivity_number event ≤ 5
 last Disconnected = omega arith
 last Reconnected = omega arith
@@ -44,22 +35,19 @@ last PeerUnavailable = omega arith
 last Registered = omega arith
 last PeerAvailable = omega arith
 
-pub early : (event : Connectivity) → leb 4 (connectivity_number event) ≡ false → connectivity_number event ≤ 3
-early event k = omega (arith, leb-false 4 (connectivity_number event) k)
-
-pub late : (event : Connectivity) → leb 4 (connectivity_number event) ≡ true → 4 ≤ connectivity_number event
-late event k = leb-true 4 (connectivity_number event) k
+pub ready_for : {p : Parts} {n d o q : ℕ} {wrong : Bool} → Admitted (opened_of p) n d o q wrong false → Ready p n
+ready_for a = record { sound = a.sound; full = a.full; list = a.list }
 
 -- ---- past the tests
 
-pub ready_for : {p : Parts} {n d o q : ℕ} {wrong : Bool} (event : Connectivity) → Admitted (opened_of p) n d o q wrong false → Ready p n (connectivity_number event)
-ready_for event a = record { sound = a.sound; full = a.full; list = a.list; first = first event; last = last event }
+module _ (w h b : List ℕ) (t : Float) (l : List ℕ) (event : Connectivity) (time : Float) (f : Bool) (ready : Ready (parts w h b t) (length l)) where
+  abbrev e : ℕ
+  e = connectivity_number event
 
-module _ (w h b : List ℕ) (t : Float) (l : List ℕ) (e : ℕ) (time : Float) (f : Bool) (ready : Ready (parts w h b t) (length l) e) where
-  pub noted : e ≤ 3 → {y : LinkAnswer} → y ≡ answer_of (Flag true) 0 → Driven (parts w h b t) (parts w h b t) y (λ s r. CalledWithList (connects e time f) s l r l)
+  pub noted : leb 4 e ≡ false → {y : LinkAnswer} → y ≡ answer_of (Flag true) 0 → Driven (parts w h b t) (parts w h b t) y (λ s r. CalledWithList (connects e time f) s l r l)
   noted k a =
-      leaves (parts w h b t) (Flag true) 0 a
-      (C.quiet e time f (opened_of (parts w h b t)) l ready.list ready.sound ready.full ready.first k)
+      let n = C.up_to_three event k in
+      leaves (parts w h b t) (Flag true) 0 a (C.quiet e time f (opened_of (parts w h b t)) l ready.list ready.sound ready.full n.0 n.1)
 
   -- there is room for every message
   pub may_replay : (sound_outbox_of (outbox_in w h b) ≡ true) × (4 * (0 + at w 1) ≤ length l)
@@ -69,13 +57,16 @@ module _ (w h b : List ℕ) (t : Float) (l : List ℕ) (e : ℕ) (time : Float) 
       let f : SoundU (outbox_in w h b) = sound_facts (outbox_in w h b) s in
       (s, omega (arith, f.few, ready.list))
 
-  module _ (late : 4 ≤ e) where
+  module _ (resends : leb 4 e ≡ true) where
+    late : 4 ≤ e
+    late = leb-true 4 e resends
+
     pub nothing-unacked : at w 1 ≡ 0 → {y : LinkAnswer} → y ≡ answer_of (Flag true) 0
         → Driven (parts w h b t) (parts w h b t) y (λ s r. CalledWithList (connects e time f) s l r l)
     unfolding opened_of
     nothing-unacked z a =
         leaves (parts w h b t) (Flag true) 0 a
-        (C.nothing-unacked e time f (opened_of (parts w h b t)) l ready.list ready.sound ready.full late ready.last z)
+        (C.nothing-unacked e time f (opened_of (parts w h b t)) l ready.list ready.sound ready.full late (last event) z)
 
     module _ (some : at w 1 ≡ 0 → ⊥) where
       pub kept_back : (not f && held_back time t) ≡ true → {y : LinkAnswer} → y ≡ answer_of (Flag false) 0
@@ -83,7 +74,7 @@ module _ (w h b : List ℕ) (t : Float) (l : List ℕ) (e : ℕ) (time : Float) 
       unfolding opened_of
       kept_back k a =
           leaves (parts w h b t) (Flag false) 0 a
-          (C.kept_back e time f (opened_of (parts w h b t)) l ready.list ready.sound ready.full late ready.last some k)
+          (C.kept_back e time f (opened_of (parts w h b t)) l ready.list ready.sound ready.full late (last event) some k)
 
       -- only the time moves
       pub replayed : (not f && held_back time t) ≡ false → (l' : List ℕ) (n : ℕ) → Replays (outbox_in w h b) l 0 l' n → {y : LinkAnswer} → y ≡ answer_of (Flag true) n
@@ -91,4 +82,4 @@ module _ (w h b : List ℕ) (t : Float) (l : List ℕ) (e : ℕ) (time : Float) 
       unfolding opened_of
       replayed k l' n r a =
           changes (parts w h b t) ready.sound (parts w h b time) (opened_of (parts w h b time)) refl (Flag true) n a
-          (C.replays e time f (opened_of (parts w h b t)) l ready.list ready.sound ready.full late ready.last some k l' n r)
+          (C.replays e time f (opened_of (parts w h b t)) l ready.list ready.sound ready.full late (last event) some k l' n r)

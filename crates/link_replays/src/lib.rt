@@ -24,7 +24,7 @@ fn goes(
     time: f64,
     force: bool,
 ) -> LinkAnswer
-    requires { Ready (parts words.now halves.now bytes.now clock.old) (length list.old) (connectivity_number event) }
+    requires { Ready (parts words.now halves.now bytes.now clock.old) (length list.old) }
     ensures { Driven (parts words.now halves.now bytes.now clock.old) (parts words.now halves.now bytes.now clock.new) result (λ s y. CalledWithList (connects (connectivity_number event) time force) s list.old y list.new) }
 {
     if !replays::resends(event) {

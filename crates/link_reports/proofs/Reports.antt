@@ -1,5 +1,5 @@
 -- A report of a send on the parts of a session, by what it leaves of them. Assumes nothing.
-use Prim.Native.Nat.{ℕ, zero, suc, ◌+◌, ◌*◌, ◌≤◌}
+use Prim.Native.Nat.{ℕ, ◌+◌, ◌*◌, ◌≤◌}
 use mathlib.Core.Path.{◌≡◌, refl, sym, ◌∙◌}
 use mathlib.Core.Bool.{Bool, true, false}
 use mathlib.Core.List.{List, [], ◌∷◌}
@@ -15,9 +15,6 @@ use Rattle.rules.specs.Acks.{sent, differs_from}
 use Rattle.rules.specs.State.{State}
 use Rattle.rules.specs.Progress.{Outcome}
 use Rattle.rules.specs.Calls.{reports, step}
-use Rattle.rules.specs.declared.FrameKind.{FrameKind}
-use Rattle.rules.specs.Codes.{frame_kind_number}
-use Rattle.rules.proofs.Codes.{code-small}
 use Rattle.numbers.specs.Seats.{in_use, Holds}
 use Rattle.outbox.specs.Sound.{sound_outbox_of}
 use Rattle.outbox.specs.Steps.{Flagged}
@@ -128,9 +125,13 @@ module _ (w h b : List ℕ) (t : Float) (lw : 1296 ≤ length w) (lb : 4936 ≤ 
 
 -- ---- past the tests
 
+-- what the tests leave to know
+pub fits : {w h b : List ℕ} {n d o q : ℕ} {wrong : Bool} → ((t : Float) → Admitted (opened_of (parts w h b t)) n d o q wrong false) → Fit w h b n
+fits f t = let a = f t in record { sound = a.sound; full = a.full; list = a.list }
+
 module _ (w h b l : List ℕ) (number : ℕ) where
   -- what the steps ask of the parts, whatever the time
-  module _ (what : ℕ) (fit : Fit w h b (length l) what) where
+  module _ (fit : Fit w h b (length l)) where
     pub list-long : 4096 ≤ length l
     list-long = (fit nan).list
 
@@ -147,25 +148,14 @@ module _ (w h b l : List ℕ) (number : ℕ) where
     unfolding opened_of
     may_retry = A.may_retry number (opened_of (parts w h b nan)) (fit nan).sound (fit nan).full
 
-    pub of_ack : (what ≡ 0 → ⊥) → what ≡ 1
-    of_ack n = one what (fit nan).code n
-      where
-        one : (k : ℕ) → k ≤ 1 → (k ≡ 0 → ⊥) → k ≡ 1
-        one zero j n = absurd (n refl)
-        one (suc zero) j n = refl
-        one (suc (suc k)) j n = absurd (omega arith)
-
-  pub fit_as : (what k : ℕ) → k ≤ 1 → Fit w h b (length l) what → Fit w h b (length l) k
-  fit_as what k j fit t = let r : Ready (parts w h b t) (length l) what = fit t in record { sound = r.sound; full = r.full; list = r.list; code = j }
-
   -- by what is reported, and whether it was accepted
   pub reported_as : {what k : ℕ} {accepted a : Bool} {w' b' l' : List ℕ} {x : LinkAnswer} → what ≡ k → accepted ≡ a
       → Reported k number a w h b l w' b' l' x → Reported what number accepted w h b l w' b' l' x
   reported_as e f r = rw (e, f) r
 
-  module _ (what : ℕ) (accepted : Bool) (fit : Fit w h b (length l) what) where
+  module _ (accepted : Bool) (fit : Fit w h b (length l)) where
     module _ (t : Float) where
-      abbrev ready : Ready (parts w h b t) (length l) what
+      abbrev ready : Ready (parts w h b t) (length l)
       ready = fit t
 
       abbrev s : SessionState
@@ -178,58 +168,51 @@ module _ (w h b l : List ℕ) (number : ℕ) where
       lb = bytes-long w h b t ready.full
 
       -- a step that does what the rule says
-      does : {f : State → Outcome} {r : Returned} {l' : List ℕ} → ((u : State) → step (reports what number accepted) u ≡ f u) → Reports f s l r l'
+      does : (what : ℕ) → what ≤ 1 → {f : State → Outcome} {r : Returned} {l' : List ℕ} → ((u : State) → step (reports what number accepted) u ≡ f u) → Reports f s l r l'
           → CalledWithList (reports what number accepted) s l r l'
-      does e k = A.reported what number accepted ready.code s l ready.list ready.sound ready.full e k
+      does what code e k = A.reported what number accepted code s l ready.list ready.sound ready.full e k
 
-    module _ (of_data : what ≡ 0) where
-      -- data that was not accepted
-      pub unsent : accepted ≡ false → {y : LinkAnswer} → y ≡ answer_of Done 0 → Reported what number accepted w h b l w b l y
-      unsent failed e t =
-          leaves (parts w h b t) Done 0 e
-          (list-answers (reports what number accepted) (A.list-alone what number accepted) (s t) l (ready t).list (A.good-code what number accepted (ready t).code)
-          (ready t).sound (ready t).full Done (λ o q lo. A.of_data what number accepted (ready t).code of_data false failed _))
+    -- data that was not accepted
+    pub unsent : accepted ≡ false → {y : LinkAnswer} → y ≡ answer_of Done 0 → Reported 0 number accepted w h b l w b l y
+    unsent failed e t =
+        leaves (parts w h b t) Done 0 e
+        (list-answers (reports 0 number accepted) (A.list-alone 0 number accepted) (s t) l (ready t).list (A.good-code 0 number accepted (omega arith))
+        (ready t).sound (ready t).full Done (λ o q lo. A.of_data 0 number accepted (omega arith) refl false failed _))
 
-      module _ (did : accepted ≡ true) (b' : List ℕ) (m : Flagged (sent number) (outbox_in w h b) (outbox_in w h b')) (past : Past 512 b b') {y : LinkAnswer} where
-        pub other-frame : false ≡ own_frame number (handoff_in w b) → y ≡ answer_of Done 0 → Reported what number accepted w h b l w b' l y
-        unfolding opened_of
-        other-frame f e t =
-            changes (parts w h b t) (ready t).sound (parts w h b' t) _ (data_leaves w h b t (lw t) (lb t) b' past) Done 0 e
-            (does t (A.of_data what number accepted (ready t).code of_data true did) (A.other-frame number (s t) l (outbox_in w h b') m (sym f)))
-
-        pub its_own_frame : true ≡ own_frame number (handoff_in w b) → {l' : List ℕ} → l' ≡ placed l (4 * 0) (1 ∷ 0 ∷ 0 ∷ 0 ∷ []) → y ≡ answer_of Done 1
-            → Reported what number accepted w h b l w (set b' 773 1) l' y
-        unfolding opened_of
-        its_own_frame f k e t =
-            changes (parts w h b t) (ready t).sound (parts w h (set b' 773 1) t) _ (told-leaves w h b t (lw t) (lb t) b' past) Done 1 e
-            (does t (A.of_data what number accepted (ready t).code of_data true did) (A.its_own_frame number (s t) l (outbox_in w h b') m (sym f) k))
-
-    module _ (ack : what ≡ 0 → ⊥) where
-      module _ (w' : List ℕ) (only : Only 784 6 w w') {y : LinkAnswer} (e : y ≡ answer_of Done 0) where
-        -- an ack was accepted
-        pub ack_sent : accepted ≡ true → Holds (kept (differs_from number) (in_use (retry_in w))) (retry_in w') → Reported what number accepted w h b l w' b l y
-        unfolding opened_of
-        ack_sent did k t =
-            changes (parts w h b t) (ready t).sound (parts w' h b t) _ (retries_leave w h b t (lw t) (lb t) w' only) Done 0 e
-            (does t (A.of_ack what number accepted (ready t).code ack true did) (A.sent_ack number (s t) (retry_in w') l k))
-
-        -- or is kept for the next keepalive
-        pub ack_kept : accepted ≡ false → false ≡ full_of number (retry_in w) → Holds (put itself number (in_use (retry_in w))) (retry_in w')
-            → Reported what number accepted w h b l w' b l y
-        unfolding opened_of
-        ack_kept failed f k t =
-            changes (parts w h b t) (ready t).sound (parts w' h b t) _ (retries_leave w h b t (lw t) (lb t) w' only) Done 0 e
-            (does t (A.of_ack what number accepted (ready t).code ack false failed) (A.kept_ack number (s t) (retry_in w') l (sym f) k))
-
-      -- or lost, where there is no room
-      pub ack_lost : accepted ≡ false → true ≡ full_of number (retry_in w) → {y : LinkAnswer} → y ≡ answer_of (Refused RetriesFull) 0
-          → Reported what number accepted w h b l w b l y
+    module _ (did : accepted ≡ true) (b' : List ℕ) (m : Flagged (sent number) (outbox_in w h b) (outbox_in w h b')) (past : Past 512 b b') {y : LinkAnswer} where
+      pub other-frame : false ≡ own_frame number (handoff_in w b) → y ≡ answer_of Done 0 → Reported 0 number accepted w h b l w b' l y
       unfolding opened_of
-      ack_lost failed f e t =
-          refuses (parts w h b t) RetriesFull e
-          (λ r u. does t (A.of_ack what number accepted (ready t).code ack false failed) (A.lost_ack number (s t) l (sym f) u))
+      other-frame f e t =
+          changes (parts w h b t) (ready t).sound (parts w h b' t) _ (data_leaves w h b t (lw t) (lb t) b' past) Done 0 e
+          (does t 0 (omega arith) (A.of_data 0 number accepted (omega arith) refl true did) (A.other-frame number (s t) l (outbox_in w h b') m (sym f)))
 
--- a report past its tests
-pub fits : {w h b : List ℕ} {n d o q : ℕ} {wrong : Bool} (kind : FrameKind) → ((t : Float) → Admitted (opened_of (parts w h b t)) n d o q wrong false)
-    → Fit w h b n (frame_kind_number kind)
-fits kind f t = let a = f t in record { sound = a.sound; full = a.full; list = a.list; code = code-small kind refl }
+      pub its_own_frame : true ≡ own_frame number (handoff_in w b) → {l' : List ℕ} → l' ≡ placed l (4 * 0) (1 ∷ 0 ∷ 0 ∷ 0 ∷ []) → y ≡ answer_of Done 1
+          → Reported 0 number accepted w h b l w (set b' 773 1) l' y
+      unfolding opened_of
+      its_own_frame f k e t =
+          changes (parts w h b t) (ready t).sound (parts w h (set b' 773 1) t) _ (told-leaves w h b t (lw t) (lb t) b' past) Done 1 e
+          (does t 0 (omega arith) (A.of_data 0 number accepted (omega arith) refl true did) (A.its_own_frame number (s t) l (outbox_in w h b') m (sym f) k))
+
+    module _ (w' : List ℕ) (only : Only 784 6 w w') {y : LinkAnswer} (e : y ≡ answer_of Done 0) where
+      -- an ack was accepted
+      pub ack_sent : accepted ≡ true → Holds (kept (differs_from number) (in_use (retry_in w))) (retry_in w') → Reported 1 number accepted w h b l w' b l y
+      unfolding opened_of
+      ack_sent did k t =
+          changes (parts w h b t) (ready t).sound (parts w' h b t) _ (retries_leave w h b t (lw t) (lb t) w' only) Done 0 e
+          (does t 1 (omega arith) (A.of_ack 1 number accepted (omega arith) (λ z. omega (arith, z)) true did) (A.sent_ack number (s t) (retry_in w') l k))
+
+      -- or is kept for the next keepalive
+      pub ack_kept : accepted ≡ false → false ≡ full_of number (retry_in w) → Holds (put itself number (in_use (retry_in w))) (retry_in w')
+          → Reported 1 number accepted w h b l w' b l y
+      unfolding opened_of
+      ack_kept failed f k t =
+          changes (parts w h b t) (ready t).sound (parts w' h b t) _ (retries_leave w h b t (lw t) (lb t) w' only) Done 0 e
+          (does t 1 (omega arith) (A.of_ack 1 number accepted (omega arith) (λ z. omega (arith, z)) false failed) (A.kept_ack number (s t) (retry_in w') l (sym f) k))
+
+    -- or lost, where there is no room
+    pub ack_lost : accepted ≡ false → true ≡ full_of number (retry_in w) → {y : LinkAnswer} → y ≡ answer_of (Refused RetriesFull) 0
+        → Reported 1 number accepted w h b l w b l y
+    unfolding opened_of
+    ack_lost failed f e t =
+        refuses (parts w h b t) RetriesFull e
+        (λ r u. does t 1 (omega arith) (A.of_ack 1 number accepted (omega arith) (λ z. omega (arith, z)) false failed) (A.lost_ack number (s t) l (sym f) u))

@@ -7,18 +7,17 @@ use Rattle.parts.specs.declared.LinkAnswer.{LinkAnswer}
 use Rattle.parts.specs.Parts.{Parts, parts, opened_of}
 use Rattle.parts.specs.Driven.{Driven}
 
--- ---- past the tests: the list's length, the code, the session
+-- ---- past the tests: the list's length, the session
 
-pub record Ready (p : Parts) (n what : ℕ) : Type 0 where
+pub record Ready (p : Parts) (n : ℕ) : Type 0 where
   pub sound : sound_of (opened_of p) ≡ true
   pub full : Full (opened_of p)
   pub list : 4096 ≤ n
-  pub code : what ≤ 1
 
 -- whatever the clock's time is
 
-abbrev pub Fit : List ℕ → List ℕ → List ℕ → ℕ → ℕ → Type 0
-Fit w h b n what = (t : Float) → Ready (parts w h b t) n what
+abbrev pub Fit : List ℕ → List ℕ → List ℕ → ℕ → Type 0
+Fit w h b n = (t : Float) → Ready (parts w h b t) n
 
 -- words, bytes and list are left as w', b' and l'
 abbrev pub Reported : ℕ → ℕ → Bool → List ℕ → List ℕ → List ℕ → List ℕ → List ℕ → List ℕ → List ℕ → LinkAnswer → Type 0
@@ -27,4 +26,4 @@ Reported what number accepted w h b l w' b' l' x =
 
 -- a report of an ack changes words alone
 abbrev pub AckReported : ℕ → Bool → List ℕ → List ℕ → LinkAnswer → Type 0
-AckReported number accepted w w' x = (h b l : List ℕ) → Fit w h b (length l) 1 → Reported 1 number accepted w h b l w' b l x
+AckReported number accepted w w' x = (h b l : List ℕ) → Fit w h b (length l) → Reported 1 number accepted w h b l w' b l x

@@ -26,7 +26,7 @@ fn data_sent(
     list: &mut [u64],
     number: u64,
 ) -> LinkAnswer
-    requires { Fit words.now halves.now bytes.old (length list.old) 0 }
+    requires { Fit words.now halves.now bytes.old (length list.old) }
     ensures { Reported 0 number true words.now halves.now bytes.old list.old words.now bytes.new list.new result }
 {
     let own = acks::own_frame(
@@ -79,7 +79,7 @@ fn reported(
     number: u64,
     accepted: bool,
 ) -> LinkAnswer
-    requires { Fit words.old halves.now bytes.old (length list.old) (frame_kind_number kind) }
+    requires { Fit words.old halves.now bytes.old (length list.old) }
     ensures { Reported (frame_kind_number kind) number accepted words.old halves.now bytes.old list.old words.new bytes.new list.new result }
 {
     match kind {

@@ -24,7 +24,7 @@ returns-in-Err c =
 pub goes-requires : goal.goes-requires
 goes-requires c =
     let t = c.args.clock.now in
-    ready_for c.in-Ok.event (passed_at c.try_from-read.result c.is_err-wrong.ensures.value (c.enters-entered.ensures.tested t) (c.enters-entered.ensures.passed t) (sym c.and.ensures ∙ c.in-Ok.is)).0
+    ready_for (passed_at c.try_from-read.result c.is_err-wrong.ensures.value (c.enters-entered.ensures.tested t) (c.enters-entered.ensures.passed t) (sym c.and.ensures ∙ c.in-Ok.is)).0
 
 pub returns-in-Ok : goal.returns-in-Ok
 returns-in-Ok c =

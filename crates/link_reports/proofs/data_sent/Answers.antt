@@ -6,18 +6,18 @@ use Rattle.link_reports.proofs.data_sent.Goals as goal
 
 pub mark_sent-requires : goal.mark_sent-requires
 mark_sent-requires c =
-    messages-sound c.args.words.now c.args.halves.now c.args.bytes.now c.args.list.now c.args.number 0 c.requires
+    messages-sound c.args.words.now c.args.halves.now c.args.bytes.now c.args.list.now c.args.number c.requires
 
 pub emit-requires : goal.emit-requires
 emit-requires c =
-    omega (arith, list-long c.args.words.now c.args.halves.now c.args.bytes.now c.args.list.now c.args.number 0 c.requires)
+    omega (arith, list-long c.args.words.now c.args.halves.now c.args.bytes.now c.args.list.now c.args.number c.requires)
 
 pub returns-then-own : goal.returns-then-own
 returns-then-own c =
-    its_own_frame c.args.words.now c.args.halves.now c.args.bytes.now c.args.list.now c.args.number 0 true c.requires refl refl _
+    its_own_frame c.args.words.now c.args.halves.now c.args.bytes.now c.args.list.now c.args.number true c.requires refl _
     c.mark_sent.ensures.flagged c.mark_sent.ensures.bytes (sym c.if-own.true ∙ c.own_frame-own.ensures) c.emit.ensures c.done.ensures
 
 pub returns : goal.returns
 returns c =
-    other-frame c.args.words.now c.args.halves.now c.args.bytes.now c.args.list.now c.args.number 0 true c.requires refl refl _
+    other-frame c.args.words.now c.args.halves.now c.args.bytes.now c.args.list.now c.args.number true c.requires refl _
     c.mark_sent.ensures.flagged c.mark_sent.ensures.bytes (sym c.if-own.false ∙ c.own_frame-own.ensures) c.done-2.ensures

@@ -22,7 +22,7 @@ returns-in-Err c =
 
 pub reported-requires : goal.reported-requires
 reported-requires c =
-    fits c.in-Ok.kind (λ t. (passed_at c.try_from-read.result c.is_err-wrong.ensures.value (c.enters-entered.ensures.tested t) (c.enters-entered.ensures.passed t) (sym c.and.ensures ∙ c.in-Ok.is)).0)
+    fits (λ t. (passed_at c.try_from-read.result c.is_err-wrong.ensures.value (c.enters-entered.ensures.tested t) (c.enters-entered.ensures.passed t) (sym c.and.ensures ∙ c.in-Ok.is)).0)
 
 pub returns-in-Ok : goal.returns-in-Ok
 returns-in-Ok c =
