@@ -9,7 +9,7 @@ use lib.Dec.{ltb}
 use borrow.Author.Tests.{le-leb, lt-leb, lt-ltb, le-ltb}
 use Rattle.rules.specs.declared.Answer.{Answer}
 use Rattle.rules.specs.declared.Answer.TheVariants.{Flag, Refused}
-use Rattle.rules.specs.declared.Refusal.TheVariants.{ShortBuffer, BadRecord, AckOutOfRange, GenerationsExhausted}
+use Rattle.rules.specs.declared.Refusal.TheVariants.{AckOutOfRange, GenerationsExhausted}
 use Rattle.rules.specs.Lists.{Bytes, packed}
 use Rattle.rules.specs.State as R
 use Rattle.rules.specs.State.{body_of, frame_body}
@@ -30,10 +30,10 @@ use Rattle.peer_session.specs.View.{held, state_of, Exact}
 use Rattle.peer_session.specs.Sound.{sound_of, Full}
 use Rattle.peer_session.proofs.View.{exact-held}
 use Rattle.session.specs.declared.Returned.{Returned}
-use Rattle.session.specs.Promise.{exit, lent, Called, Turned}
+use Rattle.session.specs.Promise.{exit, lent, Called}
 use Rattle.session.proofs.Promises.{list_written, outbound-same, queue-same}
-use Rattle.session.proofs.Lengths.{short-queue, long-enough, not_taken}
-use Rattle.session.proofs.Entry.{Entered, entered, is-short, is_unsound, meets, is_refused}
+use Rattle.session.proofs.Lengths.{long-enough, not_taken}
+use Rattle.session.proofs.Entry.{Entered, entered, meets}
 use Rattle.acks.specs.Steps.{acked, shown, Acked, OutOfRange}
 
 -- ---- the rule
@@ -75,80 +75,68 @@ module _ (n : ℕ) (t : R.State) where
 
 -- ---- the call
 
-module _ (n : ℕ) (s : SessionState) (l : List ℕ) (o q d : Bytes) where
-  pub queue-short : {r : Returned} → Turned s ShortBuffer r → length q < 32768 → Called (gets_ack n) s (lent l d o q) r (lent l d o q)
+module _ (n : ℕ) (s : SessionState) (l : List ℕ) (o q d : Bytes) (ll : 4096 ≤ length l) (lo : 65536 ≤ length o) (lq : 32768 ≤ length q) where
+  long : short (taken_by (gets_ack n)) (lent l d o q) ≡ false
   unfolding taken_by
-  queue-short t h = is-short (gets_ack n) s (lent l d o q) t (short-queue (taken_by (gets_ack n)) (lent l d o q) refl h)
+  long = long-enough (taken_by (gets_ack n)) (lent l d o q) (λ e. ll) not_taken (λ e. lo) (λ e. lq)
 
-  module _ (ll : 4096 ≤ length l) (lo : 65536 ≤ length o) (lq : 32768 ≤ length q) where
-    long : short (taken_by (gets_ack n)) (lent l d o q) ≡ false
-    unfolding taken_by
-    long = long-enough (taken_by (gets_ack n)) (lent l d o q) (λ e. ll) not_taken (λ e. lo) (λ e. lq)
+  known : wrong_code (gets_ack n) ≡ false
+  unfolding wrong_code
+  known = refl
 
-    known : wrong_code (gets_ack n) ≡ false
-    unfolding wrong_code
-    known = refl
+  module _ (sound : sound_of s ≡ true) (full : Full s) where
+    in_order : Entered s o q
+    in_order = entered s o q sound full lo lq
 
-    pub unsound : {r : Returned} → Turned s BadRecord r → sound_of s ≡ false → Called (gets_ack n) s (lent l d o q) r (lent l d o q)
-    unsound t e = is_unsound (gets_ack n) s (lent l d o q) long known t e
+    module _ (h : s.clock.generation < 4294966000) {r : Returned} {l' : List ℕ} where
+      pub fails : {q' : Bytes} → out_of_range n (state_of s o q) ≡ true → OutOfRange s l q r l' q' → Called (gets_ack n) s (lent l d o q) r (lent l' d o q')
+      unfolding taken_by queue_reach
+      fails {q'} e f =
+          let i : Entered s o q = in_order in
+          let ex : Exact s (length o) (length q) = i.good.exact in
+          let t : R.State = state_of r.session o q' in
+          ap (λ (a : Answer). exit (held r.session) a r.events (lent l' d o q')) f.answer
+          ∙ meets (gets_ack n) s (lent l d o q) long known {r = r.session} sound
+          (record {
+            left = t;
+            events = failure AckOutOfRange ∷ [];
+            does = beyond n (state_of s o q) h e ∙ ap (λ (x : R.State). outcome x (Refused AckOutOfRange) (failure AckOutOfRange ∷ [])) (sym (f.leaves.does o));
+            session = exact-held r.session o q' (f.leaves.exact (length o) ex);
+            count = (f.listed []).count;
+            list = list_written (f.listed t.outbox.unacked);
+            delivery = refl;
+            outbound =
+                sym
+                (ap (λ (x : Outbox). repacked (outbound_end (state_of s o q)) (packed body_of (unacked_of x o)) o) f.leaves.outbox
+                ∙ outbound-same i.stored);
+            queue =
+                f.leaves.cleared.bytes
+                ∙ ap (λ (k : ℕ). repacked k (packed frame_body []) q) (sym (frames-total s.queue q ex.queued))
+                ∙ ap (λ (fs : List R.Frame). repacked (queue_end (state_of s o q)) (packed frame_body fs) q) (sym f.leaves.cleared.frames);
+          })
 
-    module _ (sound : sound_of s ≡ true) (full : Full s) where
-      in_order : Entered s o q
-      in_order = entered s o q sound full lo lq
-
-      pub exhausted : {r : Returned} → Turned s GenerationsExhausted r → 4294966000 ≤ s.clock.generation → Called (gets_ack n) s (lent l d o q) r (lent l d o q)
-      unfolding queue_reach
-      exhausted t h = is_refused (gets_ack n) s (lent l d o q) long known t sound in_order refl (spent n (state_of s o q) h)
-
-      module _ (h : s.clock.generation < 4294966000) {r : Returned} {l' : List ℕ} where
-        pub fails : {q' : Bytes} → out_of_range n (state_of s o q) ≡ true → OutOfRange s l q r l' q' → Called (gets_ack n) s (lent l d o q) r (lent l' d o q')
-        unfolding taken_by queue_reach
-        fails {q'} e f =
-            let i : Entered s o q = in_order in
-            let ex : Exact s (length o) (length q) = i.good.exact in
-            let t : R.State = state_of r.session o q' in
-            ap (λ (a : Answer). exit (held r.session) a r.events (lent l' d o q')) f.answer
-            ∙ meets (gets_ack n) s (lent l d o q) long known {r = r.session} sound
-            (record {
-              left = t;
-              events = failure AckOutOfRange ∷ [];
-              does = beyond n (state_of s o q) h e ∙ ap (λ (x : R.State). outcome x (Refused AckOutOfRange) (failure AckOutOfRange ∷ [])) (sym (f.leaves.does o));
-              session = exact-held r.session o q' (f.leaves.exact (length o) ex);
-              count = (f.listed []).count;
-              list = list_written (f.listed t.outbox.unacked);
-              delivery = refl;
-              outbound =
-                  sym
-                  (ap (λ (x : Outbox). repacked (outbound_end (state_of s o q)) (packed body_of (unacked_of x o)) o) f.leaves.outbox
-                  ∙ outbound-same i.stored);
-              queue =
-                  f.leaves.cleared.bytes
-                  ∙ ap (λ (k : ℕ). repacked k (packed frame_body []) q) (sym (frames-total s.queue q ex.queued))
-                  ∙ ap (λ (fs : List R.Frame). repacked (queue_end (state_of s o q)) (packed frame_body fs) q) (sym f.leaves.cleared.frames);
-            })
-
-        pub goes : {o' : Bytes} → out_of_range n (state_of s o q) ≡ false → Acked n s l o r l' o' → Called (gets_ack n) s (lent l d o q) r (lent l' d o' q)
-        unfolding taken_by queue_reach
-        goes {o'} e f =
-            let i : Entered s o q = in_order in
-            let ex : Exact s (length o) (length q) = i.good.exact in
-            let t : R.State = state_of r.session o' q in
-            ap (λ (a : Answer). exit (held r.session) a r.events (lent l' d o' q)) f.answer
-            ∙ meets (gets_ack n) s (lent l d o q) long known {r = r.session} sound
-            (record {
-              left = t;
-              events = shown n t;
-              does = within n (state_of s o q) h t e (f.leaves.does q);
-              session = exact-held r.session o' q (f.leaves.exact (length q) ex);
-              count = (f.listed q []).count ∙ zero-add (length (shown n t));
-              list = list_written (f.listed q t.outbox.unacked);
-              delivery = refl;
-              outbound =
-                  f.leaves.bytes
-                  ∙ ap (λ (k : ℕ). repacked k (packed body_of t.outbox.unacked) o)
-                  (exact-total s.outbox o ex.outbox);
-              queue =
-                  sym
-                  (ap (λ (x : Queue). repacked (queue_end (state_of s o q)) (packed frame_body (frames_of x q)) q) f.leaves.queue
-                  ∙ queue-same i.stored);
-            })
+      pub goes : {o' : Bytes} → out_of_range n (state_of s o q) ≡ false → Acked n s l o r l' o' → Called (gets_ack n) s (lent l d o q) r (lent l' d o' q)
+      unfolding taken_by queue_reach
+      goes {o'} e f =
+          let i : Entered s o q = in_order in
+          let ex : Exact s (length o) (length q) = i.good.exact in
+          let t : R.State = state_of r.session o' q in
+          ap (λ (a : Answer). exit (held r.session) a r.events (lent l' d o' q)) f.answer
+          ∙ meets (gets_ack n) s (lent l d o q) long known {r = r.session} sound
+          (record {
+            left = t;
+            events = shown n t;
+            does = within n (state_of s o q) h t e (f.leaves.does q);
+            session = exact-held r.session o' q (f.leaves.exact (length q) ex);
+            count = (f.listed q []).count ∙ zero-add (length (shown n t));
+            list = list_written (f.listed q t.outbox.unacked);
+            delivery = refl;
+            outbound =
+                f.leaves.bytes
+                ∙ ap (λ (k : ℕ). repacked k (packed body_of t.outbox.unacked) o)
+                (exact-total s.outbox o ex.outbox);
+            queue =
+                sym
+                (ap (λ (x : Queue). repacked (queue_end (state_of s o q)) (packed frame_body (frames_of x q)) q) f.leaves.queue
+                ∙ queue-same i.stored);
+          })

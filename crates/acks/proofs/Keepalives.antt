@@ -6,8 +6,7 @@ use Prim.Native.Nat.{ℕ, ◌*◌, ◌≤◌, ◌<◌}
 use native.Mathlib.Omega.{arith}
 use lib.ListN.{length}
 use Rattle.stores.specs.Placed.{placed}
-use Rattle.rules.specs.declared.Answer.TheVariants.{Flag, Refused}
-use Rattle.rules.specs.declared.Refusal.TheVariants.{ShortBuffer, BadRecord}
+use Rattle.rules.specs.declared.Answer.TheVariants.{Flag}
 use Rattle.rules.specs.Events.{keepalive, send_ack, listed}
 use Rattle.rules.specs.Acks.{receive_keepalive}
 use Rattle.rules.specs.Calls.{gets_keepalive, step}
@@ -19,7 +18,7 @@ use Rattle.outbox.specs.View.{unacked_of}
 use Rattle.peer_session.specs.declared.SessionState.{SessionState}
 use Rattle.peer_session.specs.Sound.{sound_of, Full}
 use Rattle.session.specs.Promise.{ToldWithList}
-use Rattle.session.proofs.WithList.{list-short, list_unsound, list_meets}
+use Rattle.session.proofs.WithList.{list_meets}
 
 alone : taken_by gets_keepalive ≡ takes true false false false
 unfolding taken_by
@@ -35,27 +34,16 @@ unfolding flat listed
 first-listed w us = record { count = refl; words = λ at. w }
 
 -- a call that hands no session back promises what it would promise with the session that it was given
-module _ (s : SessionState) (l : List ℕ) where
-  pub told-short : length l < 4096 → ToldWithList gets_keepalive s l (record { answer = Refused ShortBuffer; events = 0 }) l
-  told-short h =
-      list-short gets_keepalive alone s l {r = record { session = s; answer = Refused ShortBuffer; events = 0 }}
-      (record { session = refl; answer = refl; events = refl }) h
-
-  module _ (ll : 4096 ≤ length l) where
-    pub told_unsound : sound_of s ≡ false → ToldWithList gets_keepalive s l (record { answer = Refused BadRecord; events = 0 }) l
-    told_unsound e =
-        list_unsound gets_keepalive alone s l ll known {r = record { session = s; answer = Refused BadRecord; events = 0 }}
-        (record { session = refl; answer = refl; events = refl }) e
-
-    pub told : {l₁ l₂ : List ℕ} {n : ℕ} → sound_of s ≡ true → Full s → l₁ ≡ placed l (4 * 0) (5 ∷ 0 ∷ 0 ∷ 0 ∷ [])
-        → Listed (map send_ack (in_use s.retry)) l₁ 1 l₂ n → ToldWithList gets_keepalive s l (record { answer = Flag true; events = n }) l₂
-    unfolding step receive_keepalive
-    told {l₁} {l₂} {n} sound full w li =
-        list_meets gets_keepalive alone s l ll known sound full s (Flag true) n l₂
-        (λ o q i lo.
-        record {
-          events = keepalive ∷ map send_ack (in_use s.retry);
-          does = refl;
-          exact = i.good.exact;
-          listed = listed_then (omega arith) (first-listed w (unacked_of s.outbox o)) (li (unacked_of s.outbox o));
-        })
+module _ (s : SessionState) (l : List ℕ) (ll : 4096 ≤ length l) where
+  pub told : {l₁ l₂ : List ℕ} {n : ℕ} → sound_of s ≡ true → Full s → l₁ ≡ placed l (4 * 0) (5 ∷ 0 ∷ 0 ∷ 0 ∷ [])
+      → Listed (map send_ack (in_use s.retry)) l₁ 1 l₂ n → ToldWithList gets_keepalive s l (record { answer = Flag true; events = n }) l₂
+  unfolding step receive_keepalive
+  told {l₁} {l₂} {n} sound full w li =
+      list_meets gets_keepalive alone s l ll known sound full s (Flag true) n l₂
+      (λ o q i lo.
+      record {
+        events = keepalive ∷ map send_ack (in_use s.retry);
+        does = refl;
+        exact = i.good.exact;
+        listed = listed_then (omega arith) (first-listed w (unacked_of s.outbox o)) (li (unacked_of s.outbox o));
+      })

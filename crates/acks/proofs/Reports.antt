@@ -52,10 +52,6 @@ module _ (what n : ℕ) (accepted : Bool) where
   unfolding taken_by
   list-alone = refl
 
-  pub bad_code : 1 < what → wrong_code (reports what n accepted) ≡ true
-  unfolding wrong_code
-  bad_code h = lt-ltb 1 what h
-
   pub read-code : (r : Result FrameKind Refusal) → ReadsFrameKind what r → wrong_code (reports what n accepted) ≡ is_err r
   unfolding wrong_code
   read-code (Ok k) e = le-ltb 1 what (code-small k e)

@@ -9,7 +9,7 @@ use borrow.Author.Tests.{lt-ltb, le-ltb}
 use Rattle.rules.specs.declared.Answer.TheVariants.{Done, Prepared, Refused}
 use Rattle.rules.specs.declared.Clock.{Clock}
 use Rattle.rules.specs.declared.PreparedCommit.{PreparedCommit}
-use Rattle.rules.specs.declared.Refusal.TheVariants.{ShortBuffer, BadRecord, CommitNumber}
+use Rattle.rules.specs.declared.Refusal.TheVariants.{BadRecord, CommitNumber}
 use Rattle.rules.specs.Lists.{Bytes}
 use Rattle.rules.specs.State as R
 use Rattle.rules.specs.Events.{Event}
@@ -31,8 +31,7 @@ use Rattle.session.proofs.Promises.{promise_unsound}
 use Rattle.session.proofs.Lengths.{long-enough, not_taken}
 use Rattle.session.proofs.Entry.{entered, meets}
 use Rattle.session.proofs.Clocks.{clocked, exact_clocked}
-use Rattle.session.proofs.WithList as W
-use Rattle.session.proofs.WithList.{list_unsound, list_refused, list_meets}
+use Rattle.session.proofs.WithList.{list_refused, list_meets}
 use Rattle.commits.specs.declared.ReleasedFrames.{ReleasedFrames}
 use Rattle.commits.specs.Releases.{Persists, MayRelease, frames, ReleasesBy, notices}
 
@@ -101,43 +100,35 @@ module _ (c : PreparedCommit) (b : Bool) where
 
   -- ---- the call
 
-  module _ (s : SessionState) (l : List ℕ) where
-    pub list-short : {r : Returned} → Turned s ShortBuffer r → length l < 4096 → CalledWithList (completes c b) s l r l
-    list-short t h = W.list-short (completes c b) list-alone s l t h
+  module _ (s : SessionState) (l : List ℕ) (long : 4096 ≤ length l) (sound : sound_of s ≡ true) (full : Full s) where
+    pub outbound_refused : {r : Returned} → Turned s CommitNumber r → 18446744073709551614 < c.outbound → CalledWithList (completes c b) s l r l
+    outbound_refused t h =
+        list_refused (completes c b) list-alone s l long no_code sound full CommitNumber t (λ o q lo. outbound-past h (state_of s o q))
 
-    module _ (long : 4096 ≤ length l) where
-      pub unsound : {r : Returned} → Turned s BadRecord r → sound_of s ≡ false → CalledWithList (completes c b) s l r l
-      unsound t h = list_unsound (completes c b) list-alone s l long no_code t h
+    module _ (ho : c.outbound ≤ 18446744073709551614) where
+      pub remote_refused : {r : Returned} → Turned s CommitNumber r → 18446744073709551614 < c.remote → CalledWithList (completes c b) s l r l
+      remote_refused t h =
+          list_refused (completes c b) list-alone s l long no_code sound full CommitNumber t (λ o q lo. remote-past ho h (state_of s o q))
 
-      module _ (sound : sound_of s ≡ true) (full : Full s) where
-        pub outbound_refused : {r : Returned} → Turned s CommitNumber r → 18446744073709551614 < c.outbound → CalledWithList (completes c b) s l r l
-        outbound_refused t h =
-            list_refused (completes c b) list-alone s l long no_code sound full CommitNumber t (λ o q lo. outbound-past h (state_of s o q))
+      -- what a release asks, at the clock k
+      pub may_release : (k : Clock) → MayRelease (clocked k s) (length l)
+      may_release k =
+          let p : Parts s = parts s sound full in
+          record { sound = p.outbox; messages = (sound_facts s.outbox p.outbox).few; acks = p.waiting.few; room = long }
 
-        module _ (ho : c.outbound ≤ 18446744073709551614) where
-          pub remote_refused : {r : Returned} → Turned s CommitNumber r → 18446744073709551614 < c.remote → CalledWithList (completes c b) s l r l
-          remote_refused t h =
-              list_refused (completes c b) list-alone s l long no_code sound full CommitNumber t (λ o q lo. remote-past ho h (state_of s o q))
-
-          -- what a release asks, at the clock k
-          pub may_release : (k : Clock) → MayRelease (clocked k s) (length l)
-          may_release k =
-              let p : Parts s = parts s sound full in
-              record { sound = p.outbox; messages = (sound_facts s.outbox p.outbox).few; acks = p.waiting.few; room = long }
-
-          pub completes_it : c.remote ≤ 18446744073709551614 → (l₁ l₂ : List ℕ) (k : Clock) (r : ReleasedFrames) (n : ℕ)
-              → Persists b c s.clock k → ReleasesBy c (clocked k s) l r l₁ → Listed (notices b) l₁ r.events l₂ n
-              → CalledWithList (completes c b) s l (record { session = r.session; answer = Done; events = n }) l₂
-          completes_it hr l₁ l₂ k r n p f li =
-              list_meets (completes c b) list-alone s l long no_code sound full r.session Done n l₂
-              (λ o q i lo.
-              let x : Exact (clocked k s) (length o) (length q) = exact_clocked k s i.good.exact in
-              let es : List Event = frames c (state_of (clocked k s) o q) in
-              record {
-                events = es ++ notices b;
-                does =
-                    completed ho hr (state_of s o q) (state_of r.session o q) es
-                    (ap (release_by c) (sym (p (state_of s o q) refl)) ∙ f.does o q x);
-                exact = f.exact o q x;
-                listed = listed_then (omega arith) (f.listed o q x) (li (unacked_of r.session.outbox o));
-              })
+      pub completes_it : c.remote ≤ 18446744073709551614 → (l₁ l₂ : List ℕ) (k : Clock) (r : ReleasedFrames) (n : ℕ)
+          → Persists b c s.clock k → ReleasesBy c (clocked k s) l r l₁ → Listed (notices b) l₁ r.events l₂ n
+          → CalledWithList (completes c b) s l (record { session = r.session; answer = Done; events = n }) l₂
+      completes_it hr l₁ l₂ k r n p f li =
+          list_meets (completes c b) list-alone s l long no_code sound full r.session Done n l₂
+          (λ o q i lo.
+          let x : Exact (clocked k s) (length o) (length q) = exact_clocked k s i.good.exact in
+          let es : List Event = frames c (state_of (clocked k s) o q) in
+          record {
+            events = es ++ notices b;
+            does =
+                completed ho hr (state_of s o q) (state_of r.session o q) es
+                (ap (release_by c) (sym (p (state_of s o q) refl)) ∙ f.does o q x);
+            exact = f.exact o q x;
+            listed = listed_then (omega arith) (f.listed o q x) (li (unacked_of r.session.outbox o));
+          })

@@ -8,7 +8,6 @@ use native.Mathlib.Omega.{arith}
 use lib.ListN.{length}
 use Rattle.rules.specs.declared.Answer.{Answer}
 use Rattle.rules.specs.declared.Answer.TheVariants.{Done, Number, Flag, Prepared, Held, NotHeld, Refused}
-use Rattle.rules.specs.declared.Refusal.TheVariants.{ShortBuffer, BadRecord}
 use Rattle.rules.specs.Lists.{Bytes}
 use Rattle.rules.specs.Progress.{outcome}
 use Rattle.rules.specs.Replay.{fetch}
@@ -22,8 +21,8 @@ use Rattle.peer_session.specs.declared.SessionState.{SessionState}
 use Rattle.peer_session.specs.View.{state_of}
 use Rattle.peer_session.specs.Sound.{sound_of, Full}
 use Rattle.session.specs.Promise.{Exit, lent}
-use Rattle.session.proofs.Promises.{promise-short, promise_unsound, outbound-same}
-use Rattle.session.proofs.Lengths.{short-outbound, long-enough, not_taken}
+use Rattle.session.proofs.Promises.{outbound-same}
+use Rattle.session.proofs.Lengths.{long-enough, not_taken}
 use Rattle.session.proofs.Entry.{Entered, entered, meets}
 use Rattle.fetches.specs.Fetched.{AnsweredWithOutbound, part_if, part_of, FetchedIf, Fetched}
 
@@ -32,17 +31,10 @@ module _ (n : ℕ) (s : SessionState) (o : Bytes) where
   unfolding wrong_code
   known = refl
 
-  pub find_short : length o < 65536 → AnsweredWithOutbound (fetches n) s o (Refused ShortBuffer)
-  unfolding taken_by
-  find_short h l d q lq = sym (promise-short (fetches n) s (lent l d o q) (short-outbound (taken_by (fetches n)) (lent l d o q) refl h))
-
   module _ (lo : 65536 ≤ length o) where
     long : (l : List ℕ) (d q : Bytes) → short (taken_by (fetches n)) (lent l d o q) ≡ false
     unfolding taken_by
     long l d q = long-enough (taken_by (fetches n)) (lent l d o q) not_taken not_taken (λ e. lo) not_taken
-
-    pub find_unsound : sound_of s ≡ false → AnsweredWithOutbound (fetches n) s o (Refused BadRecord)
-    find_unsound e l d q lq = sym (promise_unsound (fetches n) s (lent l d o q) (long l d q) known e)
 
     module _ (e : sound_of s ≡ true) (full : Full s) {p at : Option Place} (is : p ≡ place_u n 0 (used_u s.outbox)) (found : p ≡ at) where
       pub find_sound : AnsweredWithOutbound (fetches n) s o (answer_of at)

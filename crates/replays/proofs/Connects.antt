@@ -11,7 +11,6 @@ use lib.Ieee.{Float}
 use borrow.Author.Tests.{le-leb, lt-leb, eq-eqb, ne_eqb}
 use Rattle.rules.specs.declared.Answer.TheVariants.{Flag}
 use Rattle.rules.specs.declared.Clock.{Clock}
-use Rattle.rules.specs.declared.Refusal.TheVariants.{ShortBuffer, UnknownCode, BadRecord}
 use Rattle.rules.specs.declared.Refusal.{Refusal}
 use Rattle.rules.specs.declared.Connectivity.{Connectivity}
 use Rattle.rules.specs.declared.Connectivity.TheVariants.{Disconnected, Reconnected, PeerUnavailable, Registered, PeerAvailable}
@@ -29,12 +28,10 @@ use Rattle.outbox.specs.Steps.{Replays}
 use Rattle.peer_session.specs.declared.SessionState.{SessionState}
 use Rattle.peer_session.specs.View.{state_of}
 use Rattle.peer_session.specs.Sound.{sound_of, Full}
-use Rattle.session.specs.declared.Returned.{Returned}
-use Rattle.session.specs.Promise.{CalledWithList, Turned}
+use Rattle.session.specs.Promise.{CalledWithList}
 use Rattle.session.proofs.Queries.{empty-unacked}
 use Rattle.session.proofs.Clocks.{clocked, exact_clocked}
-use Rattle.session.proofs.WithList as W
-use Rattle.session.proofs.WithList.{list_wrong, list_unsound, list-answers, list_meets}
+use Rattle.session.proofs.WithList.{list-answers, list_meets}
 
 one_of_five : (x : Connectivity) → not (leb 1 (connectivity_number x) && leb (connectivity_number x) 5) ≡ false
 one_of_five Disconnected = refl
@@ -116,50 +113,39 @@ module _ (e : ℕ) (time : Float) (f : Bool) where
 
   -- ---- the call
 
-  module _ (s : SessionState) (l : List ℕ) where
-    pub list-short : {r : Returned} → Turned s ShortBuffer r → length l < 4096 → CalledWithList (connects e time f) s l r l
-    list-short t h = W.list-short (connects e time f) list-alone s l t h
+  module _ (s : SessionState) (l : List ℕ) (long : 4096 ≤ length l) (sound : sound_of s ≡ true) (full : Full s) where
+    pub quiet : 1 ≤ e → e ≤ 3 → CalledWithList (connects e time f) s l (record { session = s; answer = Flag true; events = 0 }) l
+    quiet a b =
+        list-answers (connects e time f) list-alone s l long (known a (omega arith)) sound full (Flag true) (λ o q lo. nothing_done a b (state_of s o q))
 
-    module _ (long : 4096 ≤ length l) where
-      pub unknown : {r : Returned} → Turned s UnknownCode r → wrong_code (connects e time f) ≡ true → CalledWithList (connects e time f) s l r l
-      unknown t h = list_wrong (connects e time f) list-alone s l long t h
+    module _ (a : 4 ≤ e) (b : e ≤ 5) where
+      is_known : wrong_code (connects e time f) ≡ false
+      is_known = known (omega arith) b
 
-      pub unsound : 1 ≤ e → e ≤ 5 → {r : Returned} → Turned s BadRecord r → sound_of s ≡ false → CalledWithList (connects e time f) s l r l
-      unsound a b t h = list_unsound (connects e time f) list-alone s l long (known a b) t h
+      pub nothing-unacked : s.outbox.count ≡ 0 → CalledWithList (connects e time f) s l (record { session = s; answer = Flag true; events = 0 }) l
+      nothing-unacked z =
+          list-answers (connects e time f) list-alone s l long is_known sound full (Flag true)
+          (λ o q lo. none-unacked a b (state_of s o q) (empty-unacked s.outbox o full.unacked ∙ eq-eqb s.outbox.count 0 z))
 
-      module _ (sound : sound_of s ≡ true) (full : Full s) where
-        pub quiet : 1 ≤ e → e ≤ 3 → CalledWithList (connects e time f) s l (record { session = s; answer = Flag true; events = 0 }) l
-        quiet a b =
-            list-answers (connects e time f) list-alone s l long (known a (omega arith)) sound full (Flag true) (λ o q lo. nothing_done a b (state_of s o q))
+      module _ (some : s.outbox.count ≡ 0 → ⊥) where
+        unacked : (o : Bytes) → empty (unacked_of s.outbox o) ≡ false
+        unacked o = empty-unacked s.outbox o full.unacked ∙ ne_eqb s.outbox.count 0 some
 
-        module _ (a : 4 ≤ e) (b : e ≤ 5) where
-          is_known : wrong_code (connects e time f) ≡ false
-          is_known = known (omega arith) b
+        pub kept_back : (not f && held_back time s.clock.last_replay_at) ≡ true
+            → CalledWithList (connects e time f) s l (record { session = s; answer = Flag false; events = 0 }) l
+        kept_back h =
+            list-answers (connects e time f) list-alone s l long is_known sound full (Flag false)
+            (λ o q lo. held a b (state_of s o q) (unacked o) h)
 
-          pub nothing-unacked : s.outbox.count ≡ 0 → CalledWithList (connects e time f) s l (record { session = s; answer = Flag true; events = 0 }) l
-          nothing-unacked z =
-              list-answers (connects e time f) list-alone s l long is_known sound full (Flag true)
-              (λ o q lo. none-unacked a b (state_of s o q) (empty-unacked s.outbox o full.unacked ∙ eq-eqb s.outbox.count 0 z))
-
-          module _ (some : s.outbox.count ≡ 0 → ⊥) where
-            unacked : (o : Bytes) → empty (unacked_of s.outbox o) ≡ false
-            unacked o = empty-unacked s.outbox o full.unacked ∙ ne_eqb s.outbox.count 0 some
-
-            pub kept_back : (not f && held_back time s.clock.last_replay_at) ≡ true
-                → CalledWithList (connects e time f) s l (record { session = s; answer = Flag false; events = 0 }) l
-            kept_back h =
-                list-answers (connects e time f) list-alone s l long is_known sound full (Flag false)
-                (λ o q lo. held a b (state_of s o q) (unacked o) h)
-
-            pub replays : (not f && held_back time s.clock.last_replay_at) ≡ false → (l' : List ℕ) (n : ℕ) → Replays s.outbox l 0 l' n
-                → CalledWithList (connects e time f) s l (record { session = clocked (timed s.clock) s; answer = Flag true; events = n }) l'
-            unfolding replay
-            replays h l' n r =
-                list_meets (connects e time f) list-alone s l long is_known sound full (clocked (timed s.clock) s) (Flag true) n l'
-                (λ o q i lo.
-                record {
-                  events = replay (state_of s o q);
-                  does = replayed a b (state_of s o q) (unacked o) h;
-                  exact = exact_clocked (timed s.clock) s i.good.exact;
-                  listed = r.listed o (omega (arith, i.good.exact.outbox));
-                })
+        pub replays : (not f && held_back time s.clock.last_replay_at) ≡ false → (l' : List ℕ) (n : ℕ) → Replays s.outbox l 0 l' n
+            → CalledWithList (connects e time f) s l (record { session = clocked (timed s.clock) s; answer = Flag true; events = n }) l'
+        unfolding replay
+        replays h l' n r =
+            list_meets (connects e time f) list-alone s l long is_known sound full (clocked (timed s.clock) s) (Flag true) n l'
+            (λ o q i lo.
+            record {
+              events = replay (state_of s o q);
+              does = replayed a b (state_of s o q) (unacked o) h;
+              exact = exact_clocked (timed s.clock) s i.good.exact;
+              listed = r.listed o (omega (arith, i.good.exact.outbox));
+            })

@@ -8,7 +8,7 @@ use lib.ListN.{length}
 use borrow.Author.Tests.{le-leb, lt-leb}
 use Rattle.rules.specs.declared.Answer.TheVariants.{Number, Refused}
 use Rattle.rules.specs.declared.Refusal.{Refusal}
-use Rattle.rules.specs.declared.Refusal.TheVariants.{ShortBuffer, BadRecord, GenerationsExhausted}
+use Rattle.rules.specs.declared.Refusal.TheVariants.{GenerationsExhausted}
 use Rattle.rules.specs.Lists.{Bytes, packed}
 use Rattle.rules.specs.State as R
 use Rattle.rules.specs.State.{body_of}
@@ -29,8 +29,8 @@ use Rattle.peer_session.proofs.View.{exact-held}
 use Rattle.session.specs.declared.Returned.{Returned}
 use Rattle.session.specs.Promise.{lent, Called, Turned}
 use Rattle.session.proofs.Promises.{list_written}
-use Rattle.session.proofs.Lengths.{short-list, short-outbound, long-enough, not_taken}
-use Rattle.session.proofs.Entry.{Entered, entered, is-short, is_unsound, meets, is_refused}
+use Rattle.session.proofs.Lengths.{long-enough, not_taken}
+use Rattle.session.proofs.Entry.{Entered, entered, meets, is_refused}
 
 -- ---- the rule
 
@@ -67,60 +67,44 @@ next s more =
       reject = s.reject;
     }
 
-module _ (s : SessionState) (l : List ℕ) (o b d q : Bytes) where
-  pub list-short : {r : Returned} → Turned s ShortBuffer r → length l < 4096 → Called (sends b) s (lent l d o q) r (lent l d o q)
+module _ (s : SessionState) (l : List ℕ) (o b d q : Bytes) (ll : 4096 ≤ length l) (lo : 65536 ≤ length o) where
+  long : short (taken_by (sends b)) (lent l d o q) ≡ false
   unfolding taken_by
-  list-short t h = is-short (sends b) s (lent l d o q) t (short-list (taken_by (sends b)) (lent l d o q) refl h)
+  long = long-enough (taken_by (sends b)) (lent l d o q) (λ e. ll) not_taken (λ e. lo) not_taken
 
-  pub outbound-short : {r : Returned} → Turned s ShortBuffer r → length o < 65536 → Called (sends b) s (lent l d o q) r (lent l d o q)
-  unfolding taken_by
-  outbound-short t h = is-short (sends b) s (lent l d o q) t (short-outbound (taken_by (sends b)) (lent l d o q) refl h)
+  known : wrong_code (sends b) ≡ false
+  unfolding wrong_code
+  known = refl
 
-  module _ (ll : 4096 ≤ length l) (lo : 65536 ≤ length o) where
-    long : short (taken_by (sends b)) (lent l d o q) ≡ false
-    unfolding taken_by
-    long = long-enough (taken_by (sends b)) (lent l d o q) (λ e. ll) not_taken (λ e. lo) not_taken
+  module _ (sound : sound_of s ≡ true) (full : Full s) (lq : 32768 ≤ length q) where
+    in_order : Entered s o q
+    in_order = entered s o q sound full lo lq
 
-    known : wrong_code (sends b) ≡ false
-    unfolding wrong_code
-    known = refl
-
-    pub unsound : {r : Returned} → Turned s BadRecord r → sound_of s ≡ false → Called (sends b) s (lent l d o q) r (lent l d o q)
-    unsound t e = is_unsound (sends b) s (lent l d o q) long known t e
-
-    module _ (sound : sound_of s ≡ true) (full : Full s) (lq : 32768 ≤ length q) where
-      in_order : Entered s o q
-      in_order = entered s o q sound full lo lq
-
-      pub exhausted : {r : Returned} → Turned s GenerationsExhausted r → 4294966000 ≤ s.clock.generation → Called (sends b) s (lent l d o q) r (lent l d o q)
+    module _ (h : s.clock.generation < 4294966000) {o' : Bytes} where
+      pub refused : {r : Returned} {x : Refusal} → Allocates b s.outbox o (Err x) o' → Turned s x r → Called (sends b) s (lent l d o q) r (lent l d o' q)
       unfolding queue_reach
-      exhausted t h = is_refused (sends b) s (lent l d o q) long known t sound in_order refl (spent b (state_of s o q) h)
+      refused {x = x} a t =
+          let k : o' ≡ o = a.kept x refl in
+          rw k (is_refused (sends b) s (lent l d o q) long known t sound in_order refl (stopped b (state_of s o q) x h (a.does (state_of s o q) s.stage.disposition refl)))
 
-      module _ (h : s.clock.generation < 4294966000) {o' : Bytes} where
-        pub refused : {r : Returned} {x : Refusal} → Allocates b s.outbox o (Err x) o' → Turned s x r → Called (sends b) s (lent l d o q) r (lent l d o' q)
-        unfolding queue_reach
-        refused {x = x} a t =
-            let k : o' ≡ o = a.kept x refl in
-            rw k (is_refused (sends b) s (lent l d o q) long known t sound in_order refl (stopped b (state_of s o q) x h (a.does (state_of s o q) s.stage.disposition refl)))
-
-        pub went : {more : Outbox} → Allocates b s.outbox o (Ok more) o' → {l' : List ℕ} {n : ℕ} → Listed (asked (next s more).clock) l 0 l' n
-            → Called (sends b) s (lent l d o q) (record { session = next s more; answer = Number s.outbox.next; events = n }) (lent l' d o' q)
-        unfolding taken_by
-        went {more} a li =
-            let i : Entered s o q = in_order in
-            let ex : Exact s (length o) (length q) = i.good.exact in
-            let us : List R.Unacked = unacked_of more o' in
-            meets (sends b) s (lent l d o q) long known {r = next s more} sound
-            (record {
-              left = state_of (next s more) o' q;
-              events = asked (next s more).clock;
-              does = sent b (state_of s o q) (state_of (next s more) o' q) h (a.does (state_of s o q) s.stage.disposition refl);
-              session = exact-held (next s more) o' q (record { outbox = a.exact; queued = ex.queued; rest = record { waiting = ex.rest.waiting; retry = ex.rest.retry; handoff = ex.rest.handoff; handed = ex.rest.handed; reject = ex.rest.reject; rejects = ex.rest.rejects } });
-              count = (li us).count ∙ omega arith;
-              list = list_written (li us);
-              delivery = refl;
-              outbound =
-                  a.bytes
-                  ∙ ap (λ (k : ℕ). repacked k (packed body_of us) o) (exact-total s.outbox o ex.outbox);
-              queue = refl;
-            })
+      pub went : {more : Outbox} → Allocates b s.outbox o (Ok more) o' → {l' : List ℕ} {n : ℕ} → Listed (asked (next s more).clock) l 0 l' n
+          → Called (sends b) s (lent l d o q) (record { session = next s more; answer = Number s.outbox.next; events = n }) (lent l' d o' q)
+      unfolding taken_by
+      went {more} a li =
+          let i : Entered s o q = in_order in
+          let ex : Exact s (length o) (length q) = i.good.exact in
+          let us : List R.Unacked = unacked_of more o' in
+          meets (sends b) s (lent l d o q) long known {r = next s more} sound
+          (record {
+            left = state_of (next s more) o' q;
+            events = asked (next s more).clock;
+            does = sent b (state_of s o q) (state_of (next s more) o' q) h (a.does (state_of s o q) s.stage.disposition refl);
+            session = exact-held (next s more) o' q (record { outbox = a.exact; queued = ex.queued; rest = record { waiting = ex.rest.waiting; retry = ex.rest.retry; handoff = ex.rest.handoff; handed = ex.rest.handed; reject = ex.rest.reject; rejects = ex.rest.rejects } });
+            count = (li us).count ∙ omega arith;
+            list = list_written (li us);
+            delivery = refl;
+            outbound =
+                a.bytes
+                ∙ ap (λ (k : ℕ). repacked k (packed body_of us) o) (exact-total s.outbox o ex.outbox);
+            queue = refl;
+          })

@@ -34,14 +34,6 @@ module _ (t : Takes) (l : Lent) where
   abbrev p4 : Bool
   p4 = t.queue && ltb (length l.queue) 32768
 
-  pub short-list : t.list ≡ true → length l.list < 4096 → short t l ≡ true
-  unfolding short
-  short-list e h = or_left (p1 || p2 || p3) p4 (or_left (p1 || p2) p3 (or_left p1 p2 (part-short t.list _ _ e h)))
-
-  pub short-delivery : t.delivery ≡ true → length l.delivery < 49152 → short t l ≡ true
-  unfolding short
-  short-delivery e h = or_left (p1 || p2 || p3) p4 (or_left (p1 || p2) p3 (or_right p1 p2 (part-short t.delivery _ _ e h)))
-
   pub short-outbound : t.outbound ≡ true → length l.outbound < 65536 → short t l ≡ true
   unfolding short
   short-outbound e h = or_left (p1 || p2 || p3) p4 (or_right (p1 || p2) p3 (part-short t.outbound _ _ e h))

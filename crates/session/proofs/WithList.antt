@@ -8,7 +8,6 @@ use lib.ListN.{length}
 use Rattle.rules.specs.declared.Answer.{Answer}
 use Rattle.rules.specs.declared.Answer.TheVariants.{Refused}
 use Rattle.rules.specs.declared.Refusal.{Refusal}
-use Rattle.rules.specs.declared.Refusal.TheVariants.{ShortBuffer, UnknownCode, BadRecord}
 use Rattle.rules.specs.Lists.{Bytes}
 use Rattle.rules.specs.Events.{Event}
 use Rattle.rules.specs.Progress.{outcome}
@@ -24,8 +23,8 @@ use Rattle.peer_session.proofs.View.{exact-held}
 use Rattle.session.specs.declared.Returned.{Returned}
 use Rattle.session.specs.Promise.{lent, CalledWithList, Turned}
 use Rattle.session.proofs.Promises.{list_written}
-use Rattle.session.proofs.Lengths.{short-list, long-enough, not_taken}
-use Rattle.session.proofs.Entry.{Entered, entered, turned, is-short, is_wrong, is_unsound, meets}
+use Rattle.session.proofs.Lengths.{long-enough, not_taken}
+use Rattle.session.proofs.Entry.{Entered, entered, turned, meets}
 
 -- what the rule book says of the call, with these stores: session r is left, answer a given, and n events listed
 pub record FollowsWithList (c : Call) (s : SessionState) (l : List ℕ) (r : SessionState) (a : Answer) (n : ℕ) (l' : List ℕ) (o q : Bytes) : Type 0 where
@@ -44,50 +43,36 @@ where_true b x y z e f = rw e f
 where_false : (b : Bool) (x y : List ℕ) → b ≡ false → x ≡ where_taken b y x
 where_false b x y e = rw e
 
-module _ (c : Call) (is : taken_by c ≡ takes true false false false) (s : SessionState) (l : List ℕ) where
-  -- 1
-  pub list-short : {r : Returned} → Turned s ShortBuffer r → length l < 4096 → CalledWithList c s l r l
-  list-short t h d o q lo lq = is-short c s (lent l d o q) t (short-list (taken_by c) (lent l d o q) (ap (λ (x : Takes). x.list) is) h)
+module _ (c : Call) (is : taken_by c ≡ takes true false false false) (s : SessionState) (l : List ℕ) (ll : 4096 ≤ length l) where
+  long : (d o q : Bytes) → short (taken_by c) (lent l d o q) ≡ false
+  long d o q =
+      rw is (long-enough (takes true false false false) (lent l d o q) (λ e. ll) not_taken not_taken not_taken)
 
-  module _ (ll : 4096 ≤ length l) where
-    long : (d o q : Bytes) → short (taken_by c) (lent l d o q) ≡ false
-    long d o q =
-        rw is (long-enough (takes true false false false) (lent l d o q) (λ e. ll) not_taken not_taken not_taken)
+  module _ (known : wrong_code c ≡ false) (sound : sound_of s ≡ true) (full : Full s) where
+    -- the rule book's outcome; no store is touched
+    pub list_meets : (r : SessionState) (a : Answer) (n : ℕ) (l' : List ℕ) → Keeps c s l r a n l'
+        → CalledWithList c s l (record { session = r; answer = a; events = n }) l'
+    list_meets r a n l' f d o q lo lq =
+        let w : FollowsWithList c s l r a n l' o q = f o q (entered s o q sound full lo lq) lo in
+        meets c s (lent l d o q) (long d o q) known {r = r} sound
+        (record {
+          left = state_of r o q;
+          events = w.events;
+          does = w.does;
+          session = exact-held r o q w.exact;
+          count = w.listed.count ∙ zero-add (length w.events);
+          list = where_true (taken_by c).list l' _ l (ap (λ (x : Takes). x.list) is) (list_written w.listed);
+          delivery = where_false (taken_by c).delivery d _ (ap (λ (x : Takes). x.delivery) is);
+          outbound = where_false (taken_by c).outbound o _ (ap (λ (x : Takes). x.outbound) is);
+          queue = where_false (taken_by c).queue q _ (ap (λ (x : Takes). x.queue) is);
+        })
 
-    -- 2
-    pub list_wrong : {r : Returned} → Turned s UnknownCode r → wrong_code c ≡ true → CalledWithList c s l r l
-    list_wrong t e d o q lo lq = is_wrong c s (lent l d o q) (long d o q) t e
+    -- an answer that changes nothing and lists nothing
+    pub list-answers : (a : Answer) → ((o q : Bytes) → 65536 ≤ length o → step c (state_of s o q) ≡ outcome (state_of s o q) a [])
+        → CalledWithList c s l (record { session = s; answer = a; events = 0 }) l
+    list-answers a f = list_meets s a 0 l (λ o q i lo. record { events = []; does = f o q lo; exact = i.good.exact; listed = listed-none l 0 })
 
-    module _ (known : wrong_code c ≡ false) where
-      -- 3
-      pub list_unsound : {r : Returned} → Turned s BadRecord r → sound_of s ≡ false → CalledWithList c s l r l
-      list_unsound t e d o q lo lq = is_unsound c s (lent l d o q) (long d o q) known t e
-
-      module _ (sound : sound_of s ≡ true) (full : Full s) where
-        -- the rule book's outcome; no store is touched
-        pub list_meets : (r : SessionState) (a : Answer) (n : ℕ) (l' : List ℕ) → Keeps c s l r a n l'
-            → CalledWithList c s l (record { session = r; answer = a; events = n }) l'
-        list_meets r a n l' f d o q lo lq =
-            let w : FollowsWithList c s l r a n l' o q = f o q (entered s o q sound full lo lq) lo in
-            meets c s (lent l d o q) (long d o q) known {r = r} sound
-            (record {
-              left = state_of r o q;
-              events = w.events;
-              does = w.does;
-              session = exact-held r o q w.exact;
-              count = w.listed.count ∙ zero-add (length w.events);
-              list = where_true (taken_by c).list l' _ l (ap (λ (x : Takes). x.list) is) (list_written w.listed);
-              delivery = where_false (taken_by c).delivery d _ (ap (λ (x : Takes). x.delivery) is);
-              outbound = where_false (taken_by c).outbound o _ (ap (λ (x : Takes). x.outbound) is);
-              queue = where_false (taken_by c).queue q _ (ap (λ (x : Takes). x.queue) is);
-            })
-
-        -- an answer that changes nothing and lists nothing
-        pub list-answers : (a : Answer) → ((o q : Bytes) → 65536 ≤ length o → step c (state_of s o q) ≡ outcome (state_of s o q) a [])
-            → CalledWithList c s l (record { session = s; answer = a; events = 0 }) l
-        list-answers a f = list_meets s a 0 l (λ o q i lo. record { events = []; does = f o q lo; exact = i.good.exact; listed = listed-none l 0 })
-
-        -- a refusal by the rule book
-        pub list_refused : (x : Refusal) {r : Returned} → Turned s x r
-            → ((o q : Bytes) → 65536 ≤ length o → step c (state_of s o q) ≡ outcome (state_of s o q) (Refused x) []) → CalledWithList c s l r l
-        list_refused x t f d o q lo lq = turned c s (lent l d o q) t (list-answers (Refused x) f d o q lo lq)
+    -- a refusal by the rule book
+    pub list_refused : (x : Refusal) {r : Returned} → Turned s x r
+        → ((o q : Bytes) → 65536 ≤ length o → step c (state_of s o q) ≡ outcome (state_of s o q) (Refused x) []) → CalledWithList c s l r l
+    list_refused x t f d o q lo lq = turned c s (lent l d o q) t (list-answers (Refused x) f d o q lo lq)

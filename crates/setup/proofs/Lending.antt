@@ -8,14 +8,14 @@ use lib.ListN.{length}
 use Rattle.rules.specs.declared.Answer.{Answer}
 use Rattle.rules.specs.declared.Answer.TheVariants.{Refused}
 use Rattle.rules.specs.declared.Refusal.{Refusal}
-use Rattle.rules.specs.declared.Refusal.TheVariants.{ShortBuffer, BadRecord}
+use Rattle.rules.specs.declared.Refusal.TheVariants.{BadRecord}
 use Rattle.rules.specs.Lists.{Bytes, packed}
 use Rattle.rules.specs.State as R
 use Rattle.rules.specs.State.{body_of, frame_body}
 use Rattle.rules.specs.Events.{Event}
 use Rattle.rules.specs.Progress.{Outcome, outcome}
 use Rattle.rules.specs.Calls.{Call, step}
-use Rattle.rules.specs.Buffers.{Takes, takes, taken_by, short, wrong_code, where_taken, repacked, outbound_end, queue_end, queue_reach}
+use Rattle.rules.specs.Buffers.{takes, taken_by, short, wrong_code, where_taken, repacked, outbound_end, queue_end, queue_reach}
 use Rattle.events.specs.Written.{ListedIn}
 use Rattle.outbox.specs.View.{end_u, unacked_of}
 use Rattle.outbox.proofs.View.{exact-total}
@@ -28,8 +28,8 @@ use Rattle.peer_session.proofs.View.{exact-held}
 use Rattle.session.specs.declared.Returned.{Returned}
 use Rattle.session.specs.Promise.{lent, Called, Turned}
 use Rattle.session.proofs.Promises.{list_written}
-use Rattle.session.proofs.Lengths.{short-list, short-outbound, short-queue, long-enough, not_taken}
-use Rattle.session.proofs.Entry.{Entered, entered, is-short, is_unsound, meets, is_refused}
+use Rattle.session.proofs.Lengths.{long-enough, not_taken}
+use Rattle.session.proofs.Entry.{Entered, entered, is_unsound, meets, is_refused}
 use Rattle.setup.specs.Steps.{Comes}
 
 -- ---- what the rule book settles of a call before any state: the list and stores that it takes, and that it puts nothing into the queue store
@@ -61,63 +61,52 @@ pub record Leaves (c : Call) (tl to tq : Bool) (s : SessionState) (l : List ℕ)
   pub queue : tq ≡ true → q' ≡ repacked (end_q s.queue) (packed frame_body (frames_of r.queue q')) q
   pub no_queue : tq ≡ false → q' ≡ q
 
-module _ {c : Call} {tl to tq : Bool} (p : Plain c tl to tq) (s : SessionState) (l : List ℕ) (d o q : Bytes) where
-  -- 1
-  pub list-short : {r : Returned} → tl ≡ true → Turned s ShortBuffer r → length l < 4096 → Called c s (lent l d o q) r (lent l d o q)
-  list-short e t h = is-short c s (lent l d o q) t (short-list (taken_by c) (lent l d o q) (ap (λ (x : Takes). x.list) p.taken ∙ e) h)
+module _ {c : Call} {tl to tq : Bool} (p : Plain c tl to tq) (s : SessionState) (l : List ℕ) (d o q : Bytes) (ll : tl ≡ true → 4096 ≤ length l) (lo : to ≡ true → 65536 ≤ length o) (lq : tq ≡ true → 32768 ≤ length q) where
+  long : short (taken_by c) (lent l d o q) ≡ false
+  long = rw p.taken (long-enough (takes tl false to tq) (lent l d o q) ll not_taken lo lq)
 
-  pub outbound-short : {r : Returned} → to ≡ true → Turned s ShortBuffer r → length o < 65536 → Called c s (lent l d o q) r (lent l d o q)
-  outbound-short e t h = is-short c s (lent l d o q) t (short-outbound (taken_by c) (lent l d o q) (ap (λ (x : Takes). x.outbound) p.taken ∙ e) h)
+  -- 3
+  pub unsound : {r : Returned} → Turned s BadRecord r → sound_of s ≡ false → Called c s (lent l d o q) r (lent l d o q)
+  unsound t e = is_unsound c s (lent l d o q) long p.known t e
 
-  pub queue-short : {r : Returned} → tq ≡ true → Turned s ShortBuffer r → length q < 32768 → Called c s (lent l d o q) r (lent l d o q)
-  queue-short e t h = is-short c s (lent l d o q) t (short-queue (taken_by c) (lent l d o q) (ap (λ (x : Takes). x.queue) p.taken ∙ e) h)
+  module _ (sound : sound_of s ≡ true) (full : Full s) (ol : 65536 ≤ length o) (ql : 32768 ≤ length q) where
+    pub in_order : Entered s o q
+    in_order = entered s o q sound full ol ql
 
-  module _ (ll : tl ≡ true → 4096 ≤ length l) (lo : to ≡ true → 65536 ≤ length o) (lq : tq ≡ true → 32768 ≤ length q) where
-    long : short (taken_by c) (lent l d o q) ≡ false
-    long = rw p.taken (long-enough (takes tl false to tq) (lent l d o q) ll not_taken lo lq)
+    -- a refusal by the rule book
+    pub refused : {r : Returned} {x : Refusal} → Turned s x r → step c (state_of s o q) ≡ outcome (state_of s o q) (Refused x) []
+        → Called c s (lent l d o q) r (lent l d o q)
+    refused t e = is_refused c s (lent l d o q) long p.known t sound in_order (p.reach (state_of s o q)) e
 
-    -- 3
-    pub unsound : {r : Returned} → Turned s BadRecord r → sound_of s ≡ false → Called c s (lent l d o q) r (lent l d o q)
-    unsound t e = is_unsound c s (lent l d o q) long p.known t e
-
-    module _ (sound : sound_of s ≡ true) (full : Full s) (ol : 65536 ≤ length o) (ql : 32768 ≤ length q) where
-      pub in_order : Entered s o q
-      in_order = entered s o q sound full ol ql
-
-      -- a refusal by the rule book
-      pub refused : {r : Returned} {x : Refusal} → Turned s x r → step c (state_of s o q) ≡ outcome (state_of s o q) (Refused x) []
-          → Called c s (lent l d o q) r (lent l d o q)
-      refused t e = is_refused c s (lent l d o q) long p.known t sound in_order (p.reach (state_of s o q)) e
-
-      -- the rule book's outcome
-      pub leaves : {r : Returned} {l' : List ℕ} {o' q' : Bytes} → Leaves c tl to tq s l o q r.session r.answer r.events l' o' q'
-          → Called c s (lent l d o q) r (lent l' d o' q')
-      leaves {r} {l'} {o'} {q'} w =
-          let i : Entered s o q = in_order in
-          let ex : Exact s (length o) (length q) = i.good.exact in
-          let t : R.State = state_of s o q in
-          let us : List R.Unacked = unacked_of r.session.outbox o' in
-          let fs : List R.Frame = frames_of r.session.queue q' in
-          meets c s (lent l d o q) long p.known {r = r.session} sound
-          (record {
-            left = state_of r.session o' q';
-            events = w.shown;
-            does = w.does;
-            session = exact-held r.session o' q' w.exact;
-            count = w.listed.count ∙ zero-add (length w.shown);
-            list = rw p.taken (by_taken tl l' _ l (λ e. list_written w.listed) w.quiet);
-            delivery = rw p.taken refl;
-            outbound =
-                rw p.taken
-                (by_taken to o' (repacked (outbound_end t) (packed body_of us) o) o
-                (λ e. w.outbound e ∙ ap (λ (k : ℕ). repacked k (packed body_of us) o) (exact-total s.outbox o ex.outbox))
-                w.no_outbound);
-            queue =
-                rw (p.taken, p.reach)
-                (by_taken tq q' (repacked (queue_end t) (packed frame_body fs) q) q
-                (λ e. w.queue e ∙ ap (λ (k : ℕ). repacked k (packed frame_body fs) q) (sym (frames-total s.queue q ex.queued)))
-                w.no_queue);
-          })
+    -- the rule book's outcome
+    pub leaves : {r : Returned} {l' : List ℕ} {o' q' : Bytes} → Leaves c tl to tq s l o q r.session r.answer r.events l' o' q'
+        → Called c s (lent l d o q) r (lent l' d o' q')
+    leaves {r} {l'} {o'} {q'} w =
+        let i : Entered s o q = in_order in
+        let ex : Exact s (length o) (length q) = i.good.exact in
+        let t : R.State = state_of s o q in
+        let us : List R.Unacked = unacked_of r.session.outbox o' in
+        let fs : List R.Frame = frames_of r.session.queue q' in
+        meets c s (lent l d o q) long p.known {r = r.session} sound
+        (record {
+          left = state_of r.session o' q';
+          events = w.shown;
+          does = w.does;
+          session = exact-held r.session o' q' w.exact;
+          count = w.listed.count ∙ zero-add (length w.shown);
+          list = rw p.taken (by_taken tl l' _ l (λ e. list_written w.listed) w.quiet);
+          delivery = rw p.taken refl;
+          outbound =
+              rw p.taken
+              (by_taken to o' (repacked (outbound_end t) (packed body_of us) o) o
+              (λ e. w.outbound e ∙ ap (λ (k : ℕ). repacked k (packed body_of us) o) (exact-total s.outbox o ex.outbox))
+              w.no_outbound);
+          queue =
+              rw (p.taken, p.reach)
+              (by_taken tq q' (repacked (queue_end t) (packed frame_body fs) q) q
+              (λ e. w.queue e ∙ ap (λ (k : ℕ). repacked k (packed frame_body fs) q) (sym (frames-total s.queue q ex.queued)))
+              w.no_queue);
+        })
 
 -- ---- a call that leaves the queue and its store
 
