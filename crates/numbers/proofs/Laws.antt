@@ -1,10 +1,11 @@
--- The numbers in use, and a number put at its place. Assumes nothing.
+-- The numbers in use, words of a set that are lent and changed, and a number put at its place. Assumes nothing.
 use mathlib.Core.Path.{◌≡◌, refl, sym, ap, ◌∙◌}
 use mathlib.Core.List.{List, ◌∷◌, ◌++◌}
 use Prim.Native.Nat.{ℕ, suc, ◌+◌, ◌-◌, ◌≤◌, ◌<◌}
 use native.Mathlib.Omega.{arith}
 use lib.ListN.{length, take, drop, get_or, set, length-append, length-take, length-drop, length-set}
-use lib.Seq.{length-take-le, get_or-take}
+use lib.Seq.{length-take-le, get_or-take, take_all, take-take}
+use Rattle.std.proofs.lemmas.List.{take-append-le}
 use Rattle.stores.specs.Placed.{placed}
 use Rattle.stores.proofs.Laws.{length-placed}
 use Rattle.stores.proofs.Packs.{opened}
@@ -12,8 +13,6 @@ use Rattle.stores.proofs.Seats.{Seated, seated}
 use Rattle.rules.specs.Lists.{itself, put}
 use Rattle.numbers.specs.declared.Numbers.{Numbers}
 use Rattle.numbers.specs.Seats.{in_use, seat_of, but_last, ExactNumbers, Holds, Leads}
-use lib.Seq.{take_all, take-take}
-use Rattle.std.proofs.lemmas.List.{take-append-le}
 
 pub exact-length : (v : Numbers) → ExactNumbers v → length (in_use v) ≡ v.count
 exact-length v e = length-take-le v.count v.values (omega (arith, e.full, e.few))

@@ -1,4 +1,4 @@
--- Loops over a run of numbers: some are dropped, some are listed. What a run so changed makes of the set that it is lent from. Assumes nothing.
+-- Loops over a run of numbers: some are dropped, some are listed. Assumes nothing.
 use Rattle.std.specs.Prelude.{if◌then◌else◌}
 use mathlib.Core.Path.{◌≡◌, refl, sym, ap, ◌∙◌, subst}
 use mathlib.Core.Bool.{Bool, true, false}
@@ -10,7 +10,6 @@ use lib.ListN.{length, take, drop, get_or, set}
 use lib.Seq.{take-suc, take_all, take-length, length-take-le}
 use lib.Dec.{ltb, leb}
 use borrow.Author.Tests.{le-leb, lt-leb}
-use Rattle.numbers.proofs.Laws.{leads_hold}
 use Rattle.stores.specs.Placed.{placed}
 use Rattle.stores.proofs.Packs.{map-append}
 use Rattle.stores.proofs.Sifts.{Sifted, sifted_none, sifted_at, sifted_more, sifted_all, kept_next}
@@ -23,11 +22,15 @@ use Rattle.events.proofs.Laws.{listed-none, listed_then}
 use Rattle.numbers.specs.declared.Numbers.{Numbers}
 use Rattle.numbers.specs.declared.ReleasedRun.{ReleasedRun}
 use Rattle.numbers.specs.Seats.{in_use, step, Leads, ReleasesRun, ReleasesAcks}
+use Rattle.numbers.proofs.Laws.{leads_hold}
 
 -- ---- what stays
 
 pub sifted_leads : {p : ℕ → Bool} {ns₀ ns : List ℕ} {i k : ℕ} → Sifted p ns₀ (length ns₀) ns i k → length ns₀ ≤ i → Leads (kept p ns₀) k ns
-sifted_leads {p} {ns₀} s h = let a = sifted_all s h in let e : take (length ns₀) ns₀ ≡ ns₀ = take-length ns₀ in record { count = a.1 ∙ ap (λ (l : List ℕ). length (kept p l)) e; held = a.0 ∙ ap (kept p) e }
+sifted_leads {p} {ns₀} s h =
+    let a = sifted_all s h in
+    let e : take (length ns₀) ns₀ ≡ ns₀ = take-length ns₀ in
+    record { count = a.1 ∙ ap (λ (l : List ℕ). length (kept p l)) e; held = a.0 ∙ ap (kept p) e }
 
 -- ---- what is listed
 
@@ -145,11 +148,18 @@ module _ {ns list₀ : List ℕ} {n : ℕ} {list : List ℕ} {i : ℕ} (s : List
   pub all_listed : length ns ≤ i → Listed (map send_ack ns) list₀ n list (n + length ns)
   all_listed h =
       let e : i ≡ length ns = omega (arith, s.within) in
-      subst (λ (l : List ℕ). Listed (map send_ack l) list₀ n list (n + length ns)) (take-length ns) (subst (λ (j : ℕ). Listed (map send_ack (take j ns)) list₀ n list (n + j)) e s.listing.listed)
+      let l : Listed (map send_ack (take (length ns) ns)) list₀ n list (n + length ns) =
+      subst (λ (j : ℕ). Listed (map send_ack (take j ns)) list₀ n list (n + j)) e s.listing.listed in
+      subst (λ (l : List ℕ). Listed (map send_ack l) list₀ n list (n + length ns)) (take-length ns) l
 
 -- ---- the numbers in use, as a run that was lent
 
-pub released_acks : (v : Numbers) (run : List ℕ) → v.count ≤ 512 → length v.values ≡ 512 → length run ≡ length (in_use v) → {upto n : ℕ} {l l' : List ℕ} {r : ReleasedRun} → ReleasesRun upto (in_use v) l n run r l'
-    → ReleasesAcks upto v l n (record { numbers = record { values = run ++ drop v.count v.values; count = r.count }; events = r.events }) l'
-released_acks v run few full same s =
-    record { holds = leads_hold v.values run v.count few full same s.leads; few = omega (arith, length-take-le v.count v.values (omega arith), s.few); listed = s.listed }
+module _ (v : Numbers) (run : List ℕ) (few : v.count ≤ 512) (full : length v.values ≡ 512) (same : length run ≡ length (in_use v)) where
+  pub released_acks : {upto n : ℕ} {l l' : List ℕ} {r : ReleasedRun} → ReleasesRun upto (in_use v) l n run r l'
+      → ReleasesAcks upto v l n (record { numbers = record { values = run ++ drop v.count v.values; count = r.count }; events = r.events }) l'
+  released_acks s =
+      record {
+        holds = leads_hold v.values run v.count few full same s.leads;
+        few = omega (arith, length-take-le v.count v.values (omega arith), s.few);
+        listed = s.listed;
+      }

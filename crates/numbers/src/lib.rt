@@ -210,11 +210,12 @@ pub fn release(v: Numbers, upto: u64, list: &mut [u64], n: usize) -> Released
 {
     let mut values = v.values;
     let left = release_run(&mut values[..v.count], upto, list, n);
+    let numbers = Numbers {
+        values,
+        count: left.count,
+    };
     Released {
-        numbers: Numbers {
-            values,
-            count: left.count,
-        },
+        numbers,
         events: left.events,
     }
 }
