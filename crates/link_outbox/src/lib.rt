@@ -233,9 +233,8 @@ pub fn release(
     for i in 0..count {
         let len = halves[parts::UNACKED_LENS + i];
         let goes = releases(halves[i], bytes[i], upto);
-        let m = outbox::send_if(goes, halves[i], len, list, k, from);
+        k = outbox::send_if(goes, halves[i], len, list, k, from);
         free_if(goes, bytes, i);
-        k = m;
         from += len as usize;
     }
     k
@@ -252,8 +251,7 @@ pub fn replay(words: &Words, halves: &Halves, bytes: &Bytes, list: &mut [u64], n
     for i in 0..count {
         let len = halves[parts::UNACKED_LENS + i];
         let goes = bytes[i] == 0;
-        let m = outbox::send_if(goes, halves[i], len, list, k, from);
-        k = m;
+        k = outbox::send_if(goes, halves[i], len, list, k, from);
         from += len as usize;
     }
     k
@@ -300,7 +298,7 @@ fn sweep(words: &mut Words, halves: &mut Halves, bytes: &mut Bytes, store: &mut 
 // ---- an ack that lets the oldest messages go
 
 // 1 where an acknowledgement leaves a record, else 0: limit is the ack, as far as 32 bits hold it. No twin of keeps, which gets the whole ack: this one is asked
-// twice of each record, and compares numbers in the 32 bits that they have.
+// up to twice of each record, and compares numbers in the 32 bits that they have.
 fn stay_of(number: u32, pending: u8, unsent: u8, limit: u32) -> u32
     ensures { (ack : ℕ) → limit ≡ low ack → result ≡ (if ltb ack number || flag pending || flag unsent then 1 else 0) }
 {

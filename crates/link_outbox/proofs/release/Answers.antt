@@ -18,7 +18,7 @@ loop-i-preserved c =
       refl,
       freeing_more l.invariant.1 (omega arith) c.releases-goes.result c.releases-goes.ensures c.free_if.new.bytes c.free_if.ensures,
       listing-turn a.words.now a.halves.now a.bytes.now l.invariant.2 lt (releases_u a.upto) (λ u s. refl) l.bytes (l.invariant.1.rest l.i (omega arith) (omega arith)) c.releases-goes.result
-          c.releases-goes.ensures c.send_if-m.new.list c.send_if-m.result c.send_if-m.auto.list c.send_if-m.ensures _ refl,
+          c.releases-goes.ensures c.send_if-k.new.list c.send_if-k.result c.send_if-k.auto.list c.send_if-k.ensures _ refl,
     )
 
 pub returns : goal.returns

@@ -17,7 +17,7 @@ loop-i-preserved c =
     let lt = c.loop-i-test.true in (
       refl,
       listing-turn a.words.now a.halves.now a.bytes.now l.invariant.1 lt not_pending_u (λ u s. refl) a.bytes.now refl _
-          (sym (not_not _)) c.send_if-m.new.list c.send_if-m.result c.send_if-m.auto.list c.send_if-m.ensures _ refl,
+          (sym (not_not _)) c.send_if-k.new.list c.send_if-k.result c.send_if-k.auto.list c.send_if-k.ensures _ refl,
     )
 
 pub returns : goal.returns
