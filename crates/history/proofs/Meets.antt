@@ -28,7 +28,7 @@ use Rattle.peer_session.proofs.View.{held-view}
 use Rattle.peer_session.proofs.Lasting.{settles-sound}
 use Rattle.session.specs.Promise.{Exit, exit, lent, unchanged, follows, promise}
 use Rattle.session.proofs.Lengths.{long-enough, not_taken}
-use Rattle.session.proofs.Promises.{promise-short, promise-code, promise-follows}
+use Rattle.session.proofs.Promises.{promise-short, promise-code, promise-follows, lent_cong}
 use Rattle.session.proofs.Entry.{Entered, entered}
 use Rattle.starts.specs.Started.{messages_of, short_record, begins, start_promise}
 use Rattle.starts.specs.Records.{reliable_of}
@@ -47,9 +47,6 @@ pub record Whole (x : Session) : Type 0 where
   pub sound : sound_of x.code ≡ true
   pub outbound : 65536 ≤ length x.outbound
   pub queue : 32768 ≤ length x.queue
-
-lent_cong : {a b : List ℕ} {c d e f g h : Bytes} → a ≡ b → c ≡ d → e ≡ f → g ≡ h → lent a c e g ≡ lent b d f h
-lent_cong p q r s = cc
 
 -- ---- each contract, at the buffers that there are
 

@@ -28,7 +28,7 @@ use Rattle.peer_session.specs.declared.SessionState.{SessionState}
 use Rattle.peer_session.specs.View.{Held, held, encode, state_of}
 use Rattle.peer_session.specs.Sound.{sound_of, Full}
 use Rattle.session.specs.Promise.{Exit, exit, lent, unchanged, follows, promise}
-use Rattle.session.proofs.Promises.{promise-short, promise-code, promise-follows, exit_cong, outbound-same}
+use Rattle.session.proofs.Promises.{promise-short, promise-code, promise-follows, exit_cong, lent_cong, outbound-same}
 use Rattle.session.proofs.Entry.{Entered, entered}
 use Rattle.starts.specs.Started.{messages_of, short_record}
 use Rattle.starts.specs.Records.{reliable_of}
@@ -42,9 +42,6 @@ use Rattle.history.proofs.Listed.{length-listed}
 use Rattle.history.proofs.Independent.{Alike, Beside, beside_alike, queue_beside, stores_alike}
 use Rattle.history.proofs.Realised.{realised, realised_held, realised_full}
 use Rattle.history.proofs.Meets.{Whole}
-
-lent_cong : {a b : List ℕ} {c d e f g h : Bytes} → a ≡ b → c ≡ d → e ≡ f → g ≡ h → lent a c e g ≡ lent b d f h
-lent_cong p q r s = cc
 
 -- ---- the promise with other buffers
 

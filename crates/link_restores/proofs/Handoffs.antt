@@ -2,7 +2,7 @@
 use Rattle.std.specs.Prelude.{if◌then◌else◌}
 use Prim.Native.Nat.{ℕ, ◌+◌, ◌≤◌}
 use mathlib.Core.Path.{◌≡◌, refl, sym, ap, ◌∙◌, subst}
-use mathlib.Core.Bool.{Bool, true, false, true≢false}
+use mathlib.Core.Bool.{Bool, true, false}
 use mathlib.Core.List.{List, [], ◌∷◌}
 use mathlib.Core.Option.{none, some}
 use native.Mathlib.Omega.{arith}
@@ -13,7 +13,7 @@ use Rattle.rules.specs.Lists.{Bytes, same}
 use Rattle.rules.specs.Answers.{flag_value}
 use Rattle.stores.specs.Placed.{placed}
 use Rattle.stores.proofs.Laws.{length-placed, drop-placed}
-use Rattle.peer_session.specs.View.{handoff_of, handoff_length}
+use Rattle.peer_session.specs.View.{handoff_of}
 use Rattle.rules.specs.State as R
 use Rattle.parts.specs.Parts.{at, flag, section, handoff_in}
 use Rattle.parts.proofs.Fields.{length-section}
@@ -39,14 +39,6 @@ flag-there x e = rw (ne_eqb x 0 e)
 
 pub flag_gone : (x : ℕ) → x ≡ 0 → flag x ≡ false
 flag_gone x e = rw (eq-eqb x 0 e)
-
--- a handoff that is there has its length
-pub within_four : (w b : List ℕ) → flag (at b 775) ≡ true → handoff_length (handoff_in w b) ≤ 4096 → at w 7 ≤ 4096
-within_four w b e h = by (flag (at b 775)) e h
-  where
-    by : (t : Bool) → t ≡ true → (if t then at w 7 else 0) ≤ 4096 → at w 7 ≤ 4096
-    by true e h = h
-    by false e h = absurd (true≢false (sym e))
 
 -- ---- the handoff is written
 

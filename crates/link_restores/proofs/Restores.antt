@@ -1,5 +1,5 @@
 -- A restore on the parts of a session, by what it leaves of them. Assumes nothing.
-use Rattle.std.specs.Prelude.{if◌then◌else◌, Result, Ok, Err}
+use Rattle.std.specs.Prelude.{if◌then◌else◌, Result, Err}
 use Prim.Native.Nat.{ℕ, ◌+◌, ◌≤◌, ◌<◌}
 use mathlib.Core.Path.{◌≡◌, refl, sym, ap, ◌∙◌, subst}
 use mathlib.Core.Bool.{Bool, true, false, not, ◌&&◌, true≢false}
@@ -84,9 +84,6 @@ turned x ns ks bodies given p o z k e = refuses p z e (λ r u. k.call o refl r u
 -- what the tests found, by their stop
 module _ (x : Reliable) (ns ks : List ℕ) (bodies : Bytes) (given : Option Book.Handoff) (w h b : List ℕ) (t : Float) {n : ℕ} {stop : Result (Unit {0}) Refusal}
     (f : Enters x ns ks bodies given w h b n stop) where
-  pub passed : stop ≡ Ok tt → Ready x ns ks bodies given (parts w h b t) n
-  passed e = subst (λ (s : Result (Unit {0}) Refusal). Found x ns ks bodies given (parts w h b t) n s) e (f t)
-
   pub away : (z : Refusal) → stop ≡ Err z → Turns x ns ks bodies given (parts w h b t) n z
   away z e = subst (λ (s : Result (Unit {0}) Refusal). Found x ns ks bodies given (parts w h b t) n s) e (f t)
 

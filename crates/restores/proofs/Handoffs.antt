@@ -2,7 +2,7 @@
 use mathlib.Core.Path.{◌≡◌, refl, sym, ap, ◌∙◌}
 use mathlib.Core.Bool.{Bool, true, false, ◌&&◌, beq}
 use mathlib.Core.List.{[]}
-use mathlib.Core.Option.{Option, none, some}
+use mathlib.Core.Option.{Option, some}
 use Prim.Native.Nat.{ℕ, ◌+◌, ◌≤◌}
 use native.Mathlib.Omega.{arith}
 use lib.ListN.{length, take, drop, replicate, length-replicate}
@@ -19,11 +19,11 @@ use Rattle.stores.specs.Placed.{placed}
 use Rattle.stores.proofs.Laws.{length-placed}
 use Rattle.peer_session.specs.declared.TerminalHandoff.{TerminalHandoff}
 use Rattle.peer_session.specs.declared.SessionState.{SessionState}
-use Rattle.peer_session.specs.View.{handoff_of, handoff_length, state_of}
+use Rattle.peer_session.specs.View.{handoff_of, state_of}
 use Rattle.session.specs.declared.Returned.{Returned}
 use Rattle.session.specs.Promise.{Turned}
 use Rattle.setup.proofs.Steps.{turned_is}
-use Rattle.restores.specs.Steps.{held_in, Handed, Ends}
+use Rattle.restores.specs.Steps.{Handed, Ends}
 
 -- ---- whether two are the same, test by test
 
@@ -56,23 +56,6 @@ module _ (h k : R.Handoff) where
         by_acknowledged e =
             rw (eq-eqb h.id k.id id, eq-eqb h.number k.number number, body, e)
             (last_test (beq h.acknowledged k.acknowledged))
-
--- ---- whether they agree
-
-module _ (h : TerminalHandoff) (g : Option R.Handoff) where
-  pub none-there : h.present ≡ false → true ≡ agrees (handoff_of h) g
-  none-there e = rw e
-
-module _ (h : TerminalHandoff) (there : h.present ≡ true) where
-  pub none-given : false ≡ agrees (handoff_of h) none
-  none-given = rw there
-
-  pub both : {r : Bool} (k : R.Handoff) → r ≡ same_handoff (held_in h) k → r ≡ agrees (handoff_of h) (some k)
-  both k f = rw there f
-
-  -- one that is there lies within its array
-  pub within : handoff_length h ≤ length h.body → h.len ≤ length h.body
-  within e = rw there at e
 
 -- ---- the one given
 

@@ -54,7 +54,7 @@ list_written {us} {es} {l} h =
 pub exit_cong : {h k : Held} {a b : Answer} {m n : ℕ} {x y : Lent} → h ≡ k → a ≡ b → m ≡ n → x ≡ y → exit h a m x ≡ exit k b n y
 exit_cong p q r s = cc
 
-lent_cong : {a b : List ℕ} {c d e f g h : Bytes} → a ≡ b → c ≡ d → e ≡ f → g ≡ h → lent a c e g ≡ lent b d f h
+pub lent_cong : {a b : List ℕ} {c d e f g h : Bytes} → a ≡ b → c ≡ d → e ≡ f → g ≡ h → lent a c e g ≡ lent b d f h
 lent_cong p q r s = cc
 
 -- ---- a call that follows the rule book: what it leaves, answers and lists, and each buffer

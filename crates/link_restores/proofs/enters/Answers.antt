@@ -1,5 +1,4 @@
 use mathlib.Core.Path.{sym, ◌∙◌}
-use Rattle.starts.proofs.Messages.{long_record}
 use Rattle.parts.specs.Parts.{parts, opened_of}
 use Rattle.link_restores.proofs.Restores.{short-outbound, short-messages, bad_code, unsound, bad_record, long-handoff, late}
 use Rattle.restores.specs.Restored.{given_if}
@@ -16,9 +15,6 @@ returns-then-record c = λ t. bad_code c.args.«record».reliable c.args.«recor
 
 pub returns-then-not-sound : goal.returns-then-not-sound
 returns-then-not-sound c = λ t. unsound c.args.«record».reliable c.args.«record».numbers.now c.args.«record».lengths.now c.args.«record».bodies.now (given_if c.args.given) (parts c.args.words.now c.args.halves.now c.args.bytes.now t) c.if-outbound-lt-OUTBOUND_BYTES.false (sym c.short_record.ensures ∙ c.if-short_record.false) c.if-record.false (sym (c.sound.ensures t).is ∙ c.if-not-sound.true)
-
-pub good_record-requires : goal.good_record-requires
-good_record-requires c = (long_record c.args.«record».numbers.now c.args.«record».lengths.now c.args.«record».bodies.now (sym c.short_record.ensures ∙ c.if-short_record.false)).enough
 
 pub returns-then-not-good_record : goal.returns-then-not-good_record
 returns-then-not-good_record c = λ t. bad_record c.args.«record».reliable c.args.«record».numbers.now c.args.«record».lengths.now c.args.«record».bodies.now (given_if c.args.given) (parts c.args.words.now c.args.halves.now c.args.bytes.now t) c.if-outbound-lt-OUTBOUND_BYTES.false (sym c.short_record.ensures ∙ c.if-short_record.false) c.if-record.false (sym (c.sound.ensures t).is ∙ c.if-not-sound.false) (c.sound.ensures t).full (sym (c.good_record.ensures c.args.«record».bodies.now (sym c.short_record.ensures ∙ c.if-short_record.false)) ∙ c.if-not-good_record.true)
