@@ -25,9 +25,3 @@ pub goes-requires : goal.goes-requires
 goes-requires c =
     let t = c.args.clock.now in
     ready_for (passed_at c.try_from-read.result c.is_err-wrong.ensures.value (c.enters-entered.ensures.tested t) (c.enters-entered.ensures.passed t) (sym c.and.ensures ∙ c.in-Ok.is)).0
-
-pub returns-in-Ok : goal.returns-in-Ok
-returns-in-Ok c =
-    let t = c.args.clock.now in
-    let is = rw (passed_at c.try_from-read.result c.is_err-wrong.ensures.value (c.enters-entered.ensures.tested t) (c.enters-entered.ensures.passed t) (sym c.and.ensures ∙ c.in-Ok.is)).1 at c.try_from-read.ensures in
-    rw is c.goes.ensures

@@ -13,8 +13,3 @@ ack_sent-requires c = (
   retries c.args.words.now c.args.halves.now c.args.bytes.now c.args.list.now c.args.number c.requires,
   may_retry c.args.words.now c.args.halves.now c.args.bytes.now c.args.list.now c.args.number c.requires,
 )
-
-pub returns-in-Ack : goal.returns-in-Ack
-returns-in-Ack c =
-    reported_as c.args.words.now c.args.halves.now c.args.bytes.now c.args.list.now c.args.number (ap frame_kind_number c.in-Ack.is) refl
-    (c.ack_sent.ensures c.args.halves.now c.args.bytes.now c.args.list.now c.requires)
