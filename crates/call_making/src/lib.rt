@@ -9,8 +9,8 @@ use rules::Refusal;
 use session::Returned;
 use starts::Reliable;
 
-// What calls write beside the session: the list for their events, and the stores. A struct here, and four arguments in the exported calls: those
-// promise what each buffer becomes, which of a struct of `&mut` takes a clause for each field, and the functions here promise nothing of them.
+// What calls write beside the session: the list for their events, and the stores. A struct here, though the exported calls take the four apart: there
+// each promise would want a clause for each field, and the functions here promise nothing.
 #[derive(Drop)]
 pub struct Stores<'a> {
     pub list: &'a mut [u64; 4096],

@@ -214,8 +214,8 @@ pub fn gather(line: &mut [u8], n: usize, part: &[u8]) -> usize
     n + part.len()
 }
 
-// Puts the bytes of chunk from index at on, up to a line end, after the n bytes of a line. By find: `position` would want an `unwrap_or` for the end, and a
-// `map` with one more closure in place of the test.
+// Puts the bytes of chunk from index at on, up to a line end, after the n bytes of a line. By find: `position` would want an `unwrap_or` for the end,
+// and a `map` with one more closure in place of the test.
 pub fn gather_line(chunk: &[u8], at: usize, line: &mut [u8], n: usize) -> Piece
     requires { (at ≤ length chunk.now) × (length line.old < 18446744073709551615) }
     ensures { Gathered chunk.now at line.old n result line.new }
