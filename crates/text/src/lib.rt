@@ -1,7 +1,7 @@
 // Text: the fields of a line, the numbers and bytes in them, a line that is gathered from parts of the input, and text put into a lent buffer.
 #![tactic(auto)]
 
-ghost use Rattle.std.specs.Prelude.{◌≡◌, true, [], ◌∷◌, ◌+◌, ◌-◌, ◌*◌, ◌≤◌, ◌<◌, length, take, MatchOption};
+ghost use Rattle.std.specs.Prelude.{◌≡◌, true, [], ◌∷◌, ◌+◌, ◌*◌, ◌≤◌, ◌<◌, length, take, MatchOption};
 ghost use Rattle.rules.specs.Lists.{all};
 ghost use Rattle.stores.specs.Placed.{placed};
 ghost use Rattle.text.specs.Fields.{Found, between, has_word, NextField, Grown, Gathered};
