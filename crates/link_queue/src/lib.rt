@@ -1,7 +1,7 @@
 // The frames that came too early, of a session that C lends, worked on where they lie.
 #![tactic(auto)]
 
-ghost use Rattle.std.specs.Prelude.{◌≡◌, true, List, [], ℕ, ◌+◌, ◌-◌, ◌≤◌, length, take, drop, replicate};
+ghost use Rattle.std.specs.Prelude.{◌≡◌, true, List, [], ℕ, ◌≤◌, length, drop};
 ghost use Rattle.rules.specs.Lists.{Bytes, any, put};
 ghost use Rattle.rules.specs.State.{is_frame, frame_number};
 ghost use Rattle.queue.specs.View.{frames_of, ExactQueue};

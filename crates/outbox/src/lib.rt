@@ -1,8 +1,7 @@
 // The unacked messages: records by rising number in an array, their bodies packed in the outbound store that the caller lends.
 #![tactic(auto)]
 
-ghost use Rattle.std.specs.Prelude.{◌≡◌, true, [], ◌+◌, ◌*◌, ◌≤◌, ◌<◌, length, take, drop};
-ghost use Rattle.stores.specs.Placed.{placed};
+ghost use Rattle.std.specs.Prelude.{◌≡◌, true, [], ◌+◌, ◌*◌, ◌≤◌, length};
 ghost use Rattle.rules.specs.Lists.{kept};
 ghost use Rattle.rules.specs.Acks.{survives, sent};
 ghost use Rattle.outbox.specs.View.{end_u, used_u, unacked_of, ExactOutbox};

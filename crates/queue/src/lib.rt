@@ -1,7 +1,7 @@
 // The frames that came too early: records by rising number in an array, their bodies packed in the queue store that the caller lends.
 #![tactic(auto)]
 
-ghost use Rattle.std.specs.Prelude.{◌≡◌, [], ◌≤◌, ◌<◌, length, take, drop};
+ghost use Rattle.std.specs.Prelude.{◌≡◌, [], ◌≤◌, length, take, drop};
 ghost use Rattle.rules.specs.Lists.{Bytes, any, put, total};
 ghost use Rattle.rules.specs.State.{is_frame, frame_number};
 ghost use Rattle.queue.specs.View.{len_q, used_q, end_q, frames_of, ExactQueue, Repacked};
