@@ -80,7 +80,7 @@ pub fn hand(words: &mut Words, bytes: &mut Bytes, given: Option<Given>)
 
 // ---- a restore
 
-// The tests of a restore, in their order.
+// The tests of a restore, in their order. Not by `link_entry::enters`: the record's own tests stand between those of the entry.
 fn enters(
     words: &Words,
     halves: &Halves,

@@ -53,7 +53,7 @@ pub fn take(
 
 // ---- a start
 
-// The tests of a start, in their order.
+// The tests of a start, in their order. Not by `link_entry::enters`: there is no session yet.
 fn judge(
     outbound: usize,
     queue: usize,

@@ -244,8 +244,6 @@ pub fn broken(s: SessionState, queue: &mut [u8]) -> SessionState
 
 // ---- whether a session is one that calls leave
 
-// Tests stand one a line, as document 01 lists them, each with its return: `&&` over all of them would read no plainer.
-
 #[tactic(auto, unfolding(crate::specs::Sound::sound_acks))]
 pub fn sound_acks(w: Numbers, r: Numbers, queued: usize, remote: u64) -> bool
     ensures { result ≡ sound_acks w r queued remote }
@@ -257,6 +255,8 @@ pub fn sound_acks(w: Numbers, r: Numbers, queued: usize, remote: u64) -> bool
         && numbers::at_most(w, remote)
         && numbers::ascends(r)
 }
+
+// Tests stand one a line, as document 01 lists them, each with its return: `&&` over all of them would read no plainer.
 
 pub fn sound_sizes(disposition: u8, handoff: usize, reject: usize) -> bool
     ensures { result ≡ sound_sizes disposition handoff reject }

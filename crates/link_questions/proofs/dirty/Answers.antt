@@ -1,4 +1,4 @@
--- `link_replays::dirty` meets its contract, from the two generations. Assumes nothing.
+-- `link_questions::dirty` meets its contract, from the two generations. Assumes nothing.
 use Rattle.link_questions.proofs.Asks.{is-dirty}
 use Rattle.link_questions.proofs.dirty.Goals as goal
 
