@@ -1,9 +1,9 @@
 // A session as C lends it: 64-bit words, 32-bit halves, bytes, and the time of the last replay. Each number lies in the part of its width, at the index
 // that is named here; include/link.h and specs/Parts.antt repeat the indices.
 //
-// Each call has two forms, by value and in place (`link_*`): by value is the port that is compared with the Rust, in place is what C links, without a moved
-// array; they share every rule, promise and law. In both a list and its count are two parameters, as events::emit says.
-// Counts are kept in words and halves: there and back it is `as`, since usize has `From` of neither, and they none of it.
+// Each call has two forms, by value and in place (`link_*`): by value is the port that is compared with the Rust, in place is what C links, where a session's
+// arrays stay where they lie. Both have one promise by one rule book, and in place the laws of the calls by value are cited. In both a list and its count are two
+// parameters, as events::emit says. Counts are kept in words and halves: there and back it is `as`, since there is no `From` between these types and usize.
 #![tactic(auto)]
 
 ghost use Rattle.std.specs.Prelude.{◌≡◌};
@@ -48,8 +48,8 @@ pub const WAITING_NUMBERS: usize = 272;
 pub const RETRY_NUMBERS: usize = 784;
 
 // The parts stay apart, and are no fields of a struct: C lends them apart, and which of them a function may change stands in its parameters' types. A
-// struct of `&mut` was tried: each function that gets one has to promise of each field that its reference stays, or the call that lends them cannot say
-// what they hold after it.
+// struct of `&mut` was tried, in a crate of its own with two parts and three functions: each function that gets one has to promise of each field that its
+// reference stays, or the call that lends them cannot say what they hold after it.
 pub type Words = [u64; 1296];
 
 // ---- halves: of each unacked message its number and its length, of each queued frame its length
