@@ -74,8 +74,8 @@ pub fn up_to(words: &Words, number: u64) -> usize
 
 // ---- put in
 
-// A frame goes in after those that are queued, whose bodies end at index end of the store. It comes as number, kind and body, here and below: the struct
-// Frame lies above queue.
+// A frame goes in after those that are queued, whose bodies end at index end of the store. It comes as number, kind and body, here and below: each
+// goes into another part, so a struct of the three would be taken apart at once.
 pub fn join(
     words: &mut Words,
     halves: &mut Halves,

@@ -129,7 +129,8 @@ pub fn used(q: Queue) -> usize
 
 // ---- put in
 
-// A frame goes in at index at; the later ones, and their bytes, move up. It comes as number, kind and body, here and below: the struct Frame lies above.
+// A frame goes in at index at; the later ones, and their bytes, move up. It comes as number, kind and body, here and below:
+// the first two go into a record and the body into the store, so a struct of the three would be taken apart at once.
 pub fn insert_at(q: Queue, store: &mut [u8], at: usize, number: u64, kind: u8, body: &[u8]) -> Queue
     requires { Room q (length store.old) at (length body.now) }
     ensures { Repacked q store.old (with_at at (arrived number kind body.now) (frames_of q store.old)) result store.new }
