@@ -8,7 +8,8 @@ ghost use Rattle.events.specs.Written.{asked, Listed};
 use rules::{Clock, EventCode};
 
 // Writes event number n. A list and its count stay two parameters: a struct with the list's `&mut` needs a clause in each function that it is the same
-// reference still and as long as it was, which a slice needs not (tried with this function and its callers).
+// reference still and as long as it was, which a slice needs not (tried with this function and its callers). The code is a number, as the list's words are:
+// `acks::list_if` passes on the one that it is given, and an `EventCode` would take fewer than this promises to write.
 pub fn emit(list: &mut [u64], n: usize, code: u64, number: u64, start: u64, len: u64)
     requires { 4 * n + 4 ≤ length list.old }
     ensures { list.new ≡ placed list.old (4 * n) (code ∷ number ∷ start ∷ len ∷ []) }
