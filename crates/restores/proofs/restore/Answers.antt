@@ -1,5 +1,4 @@
 use mathlib.Core.Path.{sym, ◌∙◌}
-use Rattle.starts.proofs.Messages.{long_record}
 use Rattle.restores.proofs.Restores.{store-short, record_short, code_wrong, session_bad, record_bad, handoff-long, restored_late, restores_it, taking, handoff-taken}
 use Rattle.restores.specs.Restored.{given_if}
 use Rattle.restores.proofs.restore.Goals as goal
@@ -15,9 +14,6 @@ returns-then-record c = code_wrong c.args.«record».reliable c.args.«record».
 
 pub returns-then-not-sound : goal.returns-then-not-sound
 returns-then-not-sound c = session_bad c.args.«record».reliable c.args.«record».numbers.now c.args.«record».lengths.now c.args.«record».bodies.now (given_if c.args.given) c.args.s c.args.outbound.now c.if-outbound-lt-OUTBOUND_BYTES.false (sym c.short_record.ensures ∙ c.if-short_record.false) c.if-record.false c.refused-then-not-sound.ensures (sym c.sound.ensures.is ∙ c.if-not-sound.true)
-
-pub good_record-requires : goal.good_record-requires
-good_record-requires c = (long_record c.args.«record».numbers.now c.args.«record».lengths.now c.args.«record».bodies.now (sym c.short_record.ensures ∙ c.if-short_record.false)).enough
 
 pub returns-then-not-good_record : goal.returns-then-not-good_record
 returns-then-not-good_record c = record_bad c.args.«record».reliable c.args.«record».numbers.now c.args.«record».lengths.now c.args.«record».bodies.now (given_if c.args.given) c.args.s c.args.outbound.now c.if-outbound-lt-OUTBOUND_BYTES.false (sym c.short_record.ensures ∙ c.if-short_record.false) c.if-record.false (sym c.sound.ensures.is ∙ c.if-not-sound.false) c.sound.ensures.full c.refused-then-not-good_record.ensures (sym (c.good_record.ensures c.args.«record».bodies.now (sym c.short_record.ensures ∙ c.if-short_record.false)) ∙ c.if-not-good_record.true)
