@@ -8,6 +8,7 @@ use native.Mathlib.Omega.{arith}
 use lib.ListN.{length}
 use lib.Dec.{ltb, eqb}
 use borrow.Author.Tests.{lt-ltb, le-ltb, eq-eqb, ne_eqb, not-true, not-false}
+use Rattle.rules.proofs.Lists.{empty-is}
 use Rattle.rules.specs.declared.Clock.{Clock}
 use Rattle.rules.specs.declared.Refusal.TheVariants.{NumbersExhausted, UnackedFull}
 use Rattle.rules.specs.Lists.{Bytes, empty, total}
@@ -59,10 +60,6 @@ alone-fits (u ∷ us) b e h = let z : ◌≡◌ {A = ℕ} 0 1 = cc in absurd (om
 
 -- ---- the flags
 
-empty_nil : {A : Type 0} (xs : List A) → empty xs ≡ true → xs ≡ []
-empty_nil [] e = refl
-empty_nil (x ∷ xs) e = absurd (true≢false (sym e))
-
 more : {A : Type 0} (xs : List A) (x : A) → empty (xs ++ (x ∷ [])) ≡ false
 more [] x = refl
 more (y ∷ xs) x = refl
@@ -78,7 +75,7 @@ module _ (n : ℕ) (x : Bytes) (us : List R.Unacked) where
   idle true true d e = absurd (d refl)
   idle false true d e = absurd (d refl)
   idle true false d e = absurd (true≢false (sym e ∙ more us (fresh n x)))
-  idle false false d e = record { sent_not = refl; dropped_not = refl; nothing = empty_nil us e }
+  idle false false d e = record { sent_not = refl; dropped_not = refl; nothing = empty-is us e }
 
   dropped_none : (sent : Bool) → acted sent true n x us ≡ []
   dropped_none true = refl
@@ -184,7 +181,7 @@ module _ (t : Turn) where
                 let x : Bytes = s.fixed.reject in
                 let us : List R.Unacked = s.outbox.unacked in
                 let i : Idle n x us t.sent t.dropped = still s u in
-                let none : acted t.sent t.dropped n x us ≡ [] = empty_nil _ (not-false _ (sym u.unacked ∙ e)) in
+                let none : acted t.sent t.dropped n x us ≡ [] = empty-is _ (not-false _ (sym u.unacked ∙ e)) in
                 again s fs ws u
                 ∙ allocate-goes x 4 (during s fs ws t) (ap (ltb 4294967295) (number s u) ∙ le-ltb 4294967295 t.next k)
                 (alone-fits (acted t.sent t.dropped n x us) x none u.reject)

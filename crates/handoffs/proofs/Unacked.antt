@@ -9,8 +9,8 @@ use lib.ListN.{length, take, drop, get_or}
 use lib.Seq.{drop-drop}
 use lib.Dec.{leb, ltb, eqb}
 use borrow.Author.Tests.{lt-leb, leb-false, ne_eqb, eqb-true, ltb-true}
+use Rattle.std.proofs.lemmas.Bool.{and_parts}
 use Rattle.stores.specs.Packed.{cut}
-use Rattle.stores.proofs.Chains.{two}
 use Rattle.rules.specs.Lists.{Bytes, any, same, rising}
 use Rattle.rules.specs.State as R
 use Rattle.rules.specs.Handoff.{numbered_to}
@@ -30,7 +30,7 @@ none-past : (p : R.Unacked → Bool) (n : ℕ) → ((u : R.Unacked) → n < u.nu
 unfolding rising cut any
 none-past p n f m [] s h r = refl
 none-past p n f m (u ∷ us) s h r =
-    let a = two (ltb m u.number) (rising num_u u.number us) r in
+    let a = and_parts (ltb m u.number) (rising num_u u.number us) r in
     let k : m < u.number = ltb-true _ _ a.0 in
     let e : p (unacked u (take u.len s)) ≡ false = f (unacked u (take u.len s)) (omega arith) in
     rw (e) (none-past p n f u.number us (drop u.len s) (omega arith) a.1)
@@ -47,7 +47,7 @@ to-first n m u us s r = go (leb u.number n) (λ e. omega (arith, leb-false u.num
     go false h =
         sym
         (none-past (numbered_to n) n (λ v k. lt-leb v.number n k) u.number us (drop u.len s) (h refl)
-        (two (ltb m u.number) (rising num_u u.number us) r).1)
+        (and_parts (ltb m u.number) (rising num_u u.number us) r).1)
 
 to_front : (n count : ℕ) (us : List Unacked) (s : Bytes) → 0 < length us → (count ≡ 0 → ⊥) → rising num_u 0 (take count us) ≡ true
     → leb (get_or us 0 blank_u).number n ≡ any (numbered_to n) (cut len_u unacked (take count us) s)
@@ -82,10 +82,10 @@ unfolding place_u rising cut any
 carries-at n b at m [] s r = refl
 carries-at n b at m (u ∷ us) s r =
     go (eqb u.number n) (λ e. omega (arith, eqb-true u.number n e))
-    (carries-at n b (at + u.len) u.number us s (two (ltb m u.number) (rising num_u u.number us) r).1)
+    (carries-at n b (at + u.len) u.number us s (and_parts (ltb m u.number) (rising num_u u.number us) r).1)
   where
     rest : rising num_u u.number us ≡ true
-    rest = (two (ltb m u.number) (rising num_u u.number us) r).1
+    rest = (and_parts (ltb m u.number) (rising num_u u.number us) r).1
 
     go : (t : Bool) → (t ≡ true → n ≤ u.number) → lies_at (place_u n (at + u.len) us) s b ≡ any (carries_body n b) (cut len_u unacked us (drop (at + u.len) s))
         → lies_at (if t then Some (place_at at u.len) else place_u n (at + u.len) us) s b

@@ -10,6 +10,7 @@ use native.Mathlib.Omega.{arith}
 use lib.ListN.{length, drop, take-append-drop, length-replicate}
 use lib.Dec.{ltb}
 use borrow.Author.Tests.{ltb-false}
+use Rattle.std.proofs.lemmas.Bool.{or_parts}
 use Rattle.rules.specs.declared.Answer.{Answer}
 use Rattle.rules.specs.declared.Answer.TheVariants.{Done, Refused}
 use Rattle.rules.specs.declared.Refusal.{Refusal}
@@ -36,7 +37,6 @@ use Rattle.starts.proofs.Lasting.{starts-sound}
 use Rattle.restores.specs.Restored.{handoff_given, restore_promise}
 use Rattle.history.specs.Shown.{read_words}
 use Rattle.history.specs.Promises.{Session, Buffers, Left, shown_by, Opening, Starts, only_answers, TakesAll, Restores, Meets}
-use Rattle.rules.proofs.RawCalls.{or_left, or_right}
 use Rattle.history.proofs.Viewed.{Viewed, view, lent-to, Gate, passes, is-short, is_unknown, is-restore, gate_by, outcome_of, left_of, next, shown}
 use Rattle.history.proofs.Turns.{Packed, Queued, packed-next, queued-next, long-next, long-queue-next}
 use Rattle.history.proofs.Listed.{list_read}
@@ -237,9 +237,9 @@ module _ (a : Opening) (x : Session) (h : Starts a x) where
   starts =
       if_rule Sure (ltb (length a.outbound) 65536 || ltb (length a.queue) 32768 || short_record [] [] []) _ _ (λ e. not_started ShortBuffer)
       (λ e.
-      let long = or_left (ltb (length a.outbound) 65536 || ltb (length a.queue) 32768) (short_record [] [] []) e in
-      let lo : 65536 ≤ length a.outbound = ltb-false _ _ (or_left (ltb (length a.outbound) 65536) (ltb (length a.queue) 32768) long) in
-      let lq : 32768 ≤ length a.queue = ltb-false _ _ (or_right (ltb (length a.outbound) 65536) (ltb (length a.queue) 32768) long) in
+      let long = (or_parts (ltb (length a.outbound) 65536 || ltb (length a.queue) 32768) (short_record [] [] []) e).0 in
+      let lo : 65536 ≤ length a.outbound = ltb-false _ _ ((or_parts (ltb (length a.outbound) 65536) (ltb (length a.queue) 32768) long).0) in
+      let lq : 32768 ≤ length a.queue = ltb-false _ _ ((or_parts (ltb (length a.outbound) 65536) (ltb (length a.queue) 32768) long).1) in
       if_rule (λ (y : Start). Sure (begins y lent-first)) (ltb 4 a.disposition) _ _ (λ e. not_started _) λ e.
       if_rule (λ (y : Start). Sure (begins y lent-first)) (good_record (first_record a.disposition) && good_policy a.policy && good_reject a.reject) _ _ (λ e. begun lo lq) (λ e. not_started _))
       (h [] [])

@@ -9,7 +9,7 @@ use lib.Ieee.{Float}
 use lib.ListN.{length, set, length-set}
 use lib.Seq.{get_or-set_same}
 use borrow.Author.Tests.{le-leb}
-use Rattle.stores.proofs.Chains.{two}
+use Rattle.std.proofs.lemmas.Bool.{and_parts}
 use Rattle.rules.proofs.Lists.{and_both}
 use Rattle.rules.specs.Receiving.{mode_of}
 use Rattle.peer_session.specs.declared.Stage.{Stage}
@@ -44,8 +44,8 @@ module _ (w h b : List ℕ) (t : Float) (m : ℕ) (lb : 4936 ≤ length b) (know
 
   good_now : good_codes g₁ ≡ true
   good_now =
-      let a = two (leb (at b 769) 3) _ good in
-      and_both (leb (at b 769) 3) _ a.0 (and_both (leb m 4) _ (le-leb m 4 known) (two (leb (at b 771) 4) _ a.1).1)
+      let a = and_parts (leb (at b 769) 3) _ good in
+      and_both (leb (at b 769) 3) _ a.0 (and_both (leb m 4) _ (le-leb m 4 known) (and_parts (leb (at b 771) 4) _ a.1).1)
 
   pub good-after : good_codes (codes_in h b₁) ≡ true
   good-after = ap good_codes codes ∙ good_now

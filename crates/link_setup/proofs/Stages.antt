@@ -6,10 +6,10 @@ use mathlib.Core.List.{List}
 use native.Mathlib.Omega.{arith}
 use lib.Dec.{leb, eqb}
 use lib.Ieee.{Float}
-use lib.ListN.{length, set, length-set, length-take, length-drop}
+use lib.ListN.{length, set, length-set}
 use lib.Seq.{get_or-set_same, get_or-set_other}
 use borrow.Author.Tests.{leb-true, eqb-true, eqb-false}
-use Rattle.stores.proofs.Chains.{two}
+use Rattle.std.proofs.lemmas.Bool.{and_parts}
 use Rattle.rules.specs.declared.Terms.{Terms}
 use Rattle.rules.specs.declared.Setup.{Setup}
 use Rattle.rules.specs.declared.Setup.TheVariants.{None, Waiting, Started, Retired}
@@ -18,7 +18,7 @@ use Rattle.rules.specs.Setup.{is_none}
 use Rattle.rules.specs.Receiving.{mode_of}
 use Rattle.peer_session.specs.declared.Stage.{Stage}
 use Rattle.peer_session.specs.declared.SessionState.{SessionState}
-use Rattle.peer_session.specs.Sound.{Full, Checked}
+use Rattle.peer_session.specs.Sound.{Checked}
 use Rattle.setup.specs.Steps.{staged}
 use Rattle.parts.specs.declared.StageCodes.{StageCodes}
 use Rattle.parts.specs.Codes.{good_codes, good_stage, plain_terms, stage_of}
@@ -33,10 +33,10 @@ use Rattle.link_setup.specs.Steps.{Stages}
 
 module _ (g : StageCodes) (good : good_codes g ≡ true) where
   pub low-setup : g.setup ≤ 3
-  low-setup = leb-true _ _ (two (leb g.setup 3) (leb g.mode 4 && plain_terms g) good).0
+  low-setup = leb-true _ _ (and_parts (leb g.setup 3) (leb g.mode 4 && plain_terms g) good).0
 
   pub low-mode : g.mode ≤ 4
-  low-mode = leb-true _ _ (two (leb g.mode 4) (plain_terms g) (two (leb g.setup 3) (leb g.mode 4 && plain_terms g) good).1).0
+  low-mode = leb-true _ _ (and_parts (leb g.mode 4) (plain_terms g) (and_parts (leb g.setup 3) (leb g.mode 4 && plain_terms g) good).1).0
 
   pub stage_is : stage_of g ≡ good_stage g
   stage_is = sym (stage-good g good refl refl)

@@ -8,7 +8,7 @@ use lib.ListN.{length}
 use lib.Dec.{leb}
 use lib.Ieee.{Float}
 use borrow.Author.Tests.{leb-true}
-use Rattle.stores.proofs.Chains.{two}
+use Rattle.std.proofs.lemmas.Bool.{and_parts}
 use Rattle.rules.specs.Lists.{Bytes, rising, itself, all}
 use Rattle.rules.specs.Sound.{at_most}
 use Rattle.numbers.specs.Seats.{in_use}
@@ -44,15 +44,15 @@ pub usable : (w h b : List ℕ) (t : Float) → Checked (opened_of (parts w h b 
 unfolding opened_of sound_of sound_acks sound_sizes
 usable w h b t k =
     let p = Views.parts (opened_of (parts w h b t)) (sym k.is) k.full in
-    let o = two (sound_outbox_of (outbox_in w h b)) _ (sym k.is) in
-    let q = two (sound_queue (policy_in w) (at w 2) (queue_in w h b)) _ o.1 in
-    let a = two (sound_acks (waiting_in w) (retry_in w) (at w 4) (at w 2)) _ q.1 in
-    let a1 = two (leb (at w 5) 512) _ a.0 in
-    let a2 = two (leb (at w 4) (512 - at w 5)) _ a1.1 in
-    let a3 = two (leb (at w 6) 512) _ a2.1 in
-    let a4 = two (rising itself 0 (in_use (waiting_in w))) _ a3.1 in
-    let a5 = two (all (at_most (at w 2)) (in_use (waiting_in w))) _ a4.1 in
-    let d : (stage_of (codes_in h b)).disposition ≤ 4 = leb-true _ _ (two (leb (stage_of (codes_in h b)).disposition 4) _ a.1).0 in
+    let o = and_parts (sound_outbox_of (outbox_in w h b)) _ (sym k.is) in
+    let q = and_parts (sound_queue (policy_in w) (at w 2) (queue_in w h b)) _ o.1 in
+    let a = and_parts (sound_acks (waiting_in w) (retry_in w) (at w 4) (at w 2)) _ q.1 in
+    let a1 = and_parts (leb (at w 5) 512) _ a.0 in
+    let a2 = and_parts (leb (at w 4) (512 - at w 5)) _ a1.1 in
+    let a3 = and_parts (leb (at w 6) 512) _ a2.1 in
+    let a4 = and_parts (rising itself 0 (in_use (waiting_in w))) _ a3.1 in
+    let a5 = and_parts (all (at_most (at w 2)) (in_use (waiting_in w))) _ a4.1 in
+    let d : (stage_of (codes_in h b)).disposition ≤ 4 = leb-true _ _ (and_parts (leb (stage_of (codes_in h b)).disposition 4) _ a.1).0 in
     record {
       outbox = p.outbox;
       unacked = p.unacked;

@@ -6,8 +6,8 @@ use Prim.Native.Nat.{ℕ, ◌+◌, ◌-◌, ◌≤◌, ◌<◌}
 use native.Mathlib.Omega.{arith}
 use lib.Dec.{ltb}
 use borrow.Author.Tests.{le-leb, lt-ltb, ltb-true, leb-true}
+use Rattle.std.proofs.lemmas.Bool.{and_parts}
 use Rattle.stores.specs.Admitted.{admitted}
-use Rattle.stores.proofs.Chains.{two}
 use Rattle.rules.specs.Lists.{all, total, rising}
 use Rattle.rules.proofs.Lists.{and_both}
 use Rattle.outbox.specs.declared.Unacked.{Unacked}
@@ -24,8 +24,8 @@ pub record FitsU (next last sum : ℕ) (u : Unacked) : Type 0 where
 
 pub admits_facts : (next last sum : ℕ) (u : Unacked) → admits_unacked next last sum u ≡ true → FitsU next last sum u
 admits_facts next last sum u e =
-    let r = two (ltb last u.number) _ e in
-    let s = two (ltb u.number next) _ r.1 in
+    let r = and_parts (ltb last u.number) _ e in
+    let s = and_parts (ltb u.number next) _ r.1 in
     record { above = ltb-true _ _ r.0; below = ltb-true _ _ s.0; room = leb-true _ _ s.1 }
 
 pub record FitU (next last sum : ℕ) (us : List Unacked) : Type 0 where
@@ -37,7 +37,7 @@ pub admitted_fit : (next last sum : ℕ) (us : List Unacked) → sum ≤ 65536 �
 unfolding admitted rising all total
 admitted_fit next last sum [] h e = record { order = refl; below = refl; small = omega arith }
 admitted_fit next last sum (u ∷ us) h e =
-    let t = two (admits_unacked next last sum u) _ e in
+    let t = and_parts (admits_unacked next last sum u) _ e in
     let f : FitsU next last sum u = admits_facts next last sum u t.0 in
     let r : FitU next u.number (sum + u.len) us = admitted_fit next u.number (sum + u.len) us (omega (arith, f.room)) t.1 in
     record {
@@ -50,8 +50,8 @@ pub fit_admitted : (next last sum : ℕ) (us : List Unacked) → FitU next last 
 unfolding admitted rising all total
 fit_admitted next last sum [] f = refl
 fit_admitted next last sum (u ∷ us) f =
-    let o = two (ltb last u.number) _ f.order in
-    let b = two (ltb u.number next) _ f.below in
+    let o = and_parts (ltb last u.number) _ f.order in
+    let b = and_parts (ltb u.number next) _ f.below in
     let room : u.len ≤ 65536 - sum = omega (arith, f.small) in
     let r : FitU next u.number (sum + u.len) us = record { order = o.1; below = b.1; small = omega (arith, f.small) } in
     and_both (admits_unacked next last sum u) _

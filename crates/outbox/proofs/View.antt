@@ -8,6 +8,7 @@ use lib.ListN.{length, take, drop, length-drop}
 use lib.Seq.{length-take-le}
 use lib.Dec.{leb, ltb}
 use borrow.Author.Tests.{le-leb, leb-true}
+use Rattle.std.proofs.lemmas.Bool.{and_parts}
 use Rattle.stores.specs.Packed.{cut}
 use Rattle.stores.proofs.Packs.{Packing, cut-packed, map-cut, length_cut, packed-cut, cut-same}
 use Rattle.rules.specs.Buffers.{repacked}
@@ -23,7 +24,6 @@ use Rattle.outbox.specs.declared.Outbox.{Outbox}
 use Rattle.outbox.specs.View.{num_u, len_u, unacked, record_u, used_u, unacked_of, outbox_of, end_u, ExactOutbox}
 use Rattle.outbox.specs.Sound.{sound_unacked, sound_outbox_of}
 use Rattle.outbox.specs.Records.{below_u}
-use Rattle.stores.proofs.Chains.{two}
 use Rattle.outbox.proofs.Sounds.{FitU, admitted_fit, fit_admitted}
 
 -- ---- records and messages
@@ -106,9 +106,9 @@ pub record SoundU (x : Outbox) : Type 0 where
 pub sound_facts : (x : Outbox) → sound_outbox_of x ≡ true → SoundU x
 unfolding sound_outbox_of sound_unacked
 sound_facts x e =
-    let a = two (leb x.count 256) _ e in
-    let b = two (leb 1 x.next) _ a.1 in
-    let c = two (leb x.next 4294967296) _ b.1 in
+    let a = and_parts (leb x.count 256) _ e in
+    let b = and_parts (leb 1 x.next) _ a.1 in
+    let c = and_parts (leb x.next 4294967296) _ b.1 in
     let f : FitU x.next 0 0 (used_u x) = admitted_fit x.next 0 0 (used_u x) (omega arith) c.1 in
     record {
       few = leb-true _ _ a.0;

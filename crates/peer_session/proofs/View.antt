@@ -10,6 +10,7 @@ use lib.ListN.{length, take, replicate, length-replicate}
 use lib.Seq.{length-take-le}
 use lib.Dec.{leb}
 use borrow.Author.Tests.{le-leb, leb-true}
+use Rattle.std.proofs.lemmas.Bool.{and_parts}
 use Rattle.rules.specs.Lists.{Bytes, all, packed, rising, itself}
 use Rattle.rules.specs.State as R
 use Rattle.rules.specs.State.{body_of, frame_body}
@@ -19,7 +20,6 @@ use Rattle.rules.proofs.Lists.{and_both, every_true, true_every}
 use Rattle.rules.proofs.Inboxes as In
 use Rattle.rules.proofs.Sound.{Sound}
 use Rattle.stores.proofs.Packs.{cut-packed}
-use Rattle.stores.proofs.Chains.{two}
 use Rattle.stores.specs.Packed.{cut}
 use Rattle.numbers.specs.Seats.{in_use, ExactNumbers}
 use Rattle.numbers.proofs.Laws.{exact-length}
@@ -102,11 +102,11 @@ module _ (s : SessionState) (o q : Bytes) where
       → In.Good x (inbox_of (frames_of s.queue q) s) × ExactNumbers s.waiting × ExactNumbers s.retry
   unfolding sound_acks
   acks-good e full g =
-      let a = two (leb s.waiting.count 512) _ e in
-      let b = two (leb s.queue.count (512 - s.waiting.count)) _ a.1 in
-      let c = two (leb s.retry.count 512) _ b.1 in
-      let d = two (rising itself 0 (in_use s.waiting)) _ c.1 in
-      let f = two (all (at_most s.remote) (in_use s.waiting)) _ d.1 in
+      let a = and_parts (leb s.waiting.count 512) _ e in
+      let b = and_parts (leb s.queue.count (512 - s.waiting.count)) _ a.1 in
+      let c = and_parts (leb s.retry.count 512) _ b.1 in
+      let d = and_parts (rising itself 0 (in_use s.waiting)) _ c.1 in
+      let f = and_parts (all (at_most s.remote) (in_use s.waiting)) _ d.1 in
       let wc : s.waiting.count ≤ 512 = leb-true _ _ a.0 in
       let wq : s.queue.count ≤ 512 - s.waiting.count = leb-true _ _ b.0 in
       let rc : s.retry.count ≤ 512 = leb-true _ _ c.0 in
@@ -131,12 +131,12 @@ module _ (s : SessionState) (o q : Bytes) where
   pub sound-good : sound_of s ≡ true → Full s → 65536 ≤ length o → 32768 ≤ length q → Good s o q
   unfolding sound_of sound_sizes sound_fixed
   sound-good e full lo lq =
-      let a = two (sound_outbox_of s.outbox) _ e in
-      let b = two (sound_queue s.policy s.remote s.queue) _ a.1 in
-      let c = two (sound_acks s.waiting s.retry s.queue.count s.remote) _ b.1 in
-      let d = two (leb s.stage.disposition 4) _ c.1 in
-      let f = two (leb (handoff_length s.handoff) 4096) _ d.1 in
-      let g = two (leb 1 s.reject.len) _ f.1 in
+      let a = and_parts (sound_outbox_of s.outbox) _ e in
+      let b = and_parts (sound_queue s.policy s.remote s.queue) _ a.1 in
+      let c = and_parts (sound_acks s.waiting s.retry s.queue.count s.remote) _ b.1 in
+      let d = and_parts (leb s.stage.disposition 4) _ c.1 in
+      let f = and_parts (leb (handoff_length s.handoff) 4096) _ d.1 in
+      let g = and_parts (leb 1 s.reject.len) _ f.1 in
       let ob = sound-outbox-good s.outbox o a.0 full.unacked lo in
       let qu : GoodQueue x s.remote s.queue q = sound-queue-good x s.remote s.queue q b.0 full.queue lq in
       let ac = acks-good c.0 full qu in
@@ -210,8 +210,8 @@ parts s e full =
     let lo : length o ≡ 65536 = length-replicate {A = ℕ} 65536 0 in
     let lq : length q ≡ 32768 = length-replicate {A = ℕ} 32768 0 in
     let g : Good s o q = sound-good s o q e full (omega arith) (omega arith) in
-    let a = two (sound_outbox_of s.outbox) _ e in
-    let b = two (sound_queue s.policy s.remote s.queue) _ a.1 in
+    let a = and_parts (sound_outbox_of s.outbox) _ e in
+    let b = and_parts (sound_queue s.policy s.remote s.queue) _ a.1 in
     record {
       outbox = a.0;
       unacked = λ x h. (sound-outbox-good s.outbox x a.0 full.unacked h).1;

@@ -8,9 +8,9 @@ use lib.ListN.{length, take, drop, length-drop}
 use lib.Seq.{length-take-le}
 use lib.Dec.{leb, ltb}
 use borrow.Author.Tests.{lt-ltb, le-leb, ltb-true, leb-true}
+use Rattle.std.proofs.lemmas.Bool.{and_parts}
 use Rattle.stores.specs.Packed.{cut}
 use Rattle.stores.specs.Admitted.{admitted}
-use Rattle.stores.proofs.Chains.{two}
 use Rattle.rules.specs.declared.Policy.{Policy}
 use Rattle.rules.specs.Lists.{Bytes, all, total, rising}
 use Rattle.rules.specs.Limits.{last_remote, session_reject, max_queued_messages, max_queued_bytes, max_peer_body}
@@ -36,10 +36,10 @@ pub record Fits (p : Policy) (last sum : ℕ) (u : Queued) : Type 0 where
 
 pub admits-fits : (p : Policy) (last sum : ℕ) (u : Queued) → admits_queued p last sum u ≡ true → Fits p last sum u
 admits-fits p last sum u e =
-    let a = two (ltb last u.number) _ e in
-    let b = two (leb u.number last_remote) _ a.1 in
-    let c = two (leb u.kind session_reject) _ b.1 in
-    let d = two (leb u.len p.body) _ c.1 in
+    let a = and_parts (ltb last u.number) _ e in
+    let b = and_parts (leb u.number last_remote) _ a.1 in
+    let c = and_parts (leb u.kind session_reject) _ b.1 in
+    let d = and_parts (leb u.len p.body) _ c.1 in
     record {
       above = ltb-true _ _ a.0;
       below = leb-true _ _ b.0;
@@ -67,7 +67,7 @@ admitted-held : (x : R.Fixed) (last sum : ℕ) (us : List Queued) (s : Bytes) �
 unfolding admitted rising all cut total
 admitted-held x last sum [] s h k e = record { order = refl; frames = refl; bytes = omega arith }
 admitted-held x last sum (u ∷ us) s h k e =
-    let t = two (admits_queued x.policy last sum u) _ e in
+    let t = and_parts (admits_queued x.policy last sum u) _ e in
     let f : Fits x.policy last sum u = admits-fits x.policy last sum u t.0 in
     let lt : length (take u.len s) ≡ u.len = length-take-le u.len s (omega (arith, f.room)) in
     let ld : length (drop u.len s) ≡ length s - u.len = length-drop u.len s in
@@ -124,11 +124,11 @@ module _ (x : R.Fixed) (remote : ℕ) (q : Queue) (o : Bytes) where
   pub sound-queue-good : sound_queue x.policy remote q ≡ true → length q.records ≡ 256 → 32768 ≤ length o → GoodQueue x remote q o
   unfolding sound_queue sound_queued frames_of
   sound-queue-good e full room =
-      let a = two (leb x.policy.messages max_queued_messages) _ e in
-      let b = two (leb x.policy.bytes max_queued_bytes) _ a.1 in
-      let c = two (leb x.policy.body max_peer_body) _ b.1 in
-      let d = two (leb q.count x.policy.messages) _ c.1 in
-      let f = two (leb remote last_remote) _ d.1 in
+      let a = and_parts (leb x.policy.messages max_queued_messages) _ e in
+      let b = and_parts (leb x.policy.bytes max_queued_bytes) _ a.1 in
+      let c = and_parts (leb x.policy.body max_peer_body) _ b.1 in
+      let d = and_parts (leb q.count x.policy.messages) _ c.1 in
+      let f = and_parts (leb remote last_remote) _ d.1 in
       let few : x.policy.messages ≤ 256 = leb-true _ _ a.0 in
       let small : x.policy.bytes ≤ 32768 = leb-true _ _ b.0 in
       let count : q.count ≤ x.policy.messages = leb-true _ _ d.0 in

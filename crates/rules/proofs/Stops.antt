@@ -2,7 +2,7 @@
 -- anew finds nothing unacked, and its body fits an empty store. Assumes nothing.
 use mathlib.Core.Path.{◌≡◌, refl}
 use mathlib.Core.Bool.{true, false, not, ◌&&◌}
-use mathlib.Core.List.{List, [], ◌∷◌}
+use mathlib.Core.List.{List}
 use mathlib.Core.Logic.{inl, inr}
 use mathlib.Core.Option.{Option, none, some}
 use Prim.Native.Nat.{ℕ, zero, suc, ◌≤◌, ◌+◌}
@@ -15,7 +15,7 @@ use Rattle.rules.specs.declared.ReceiveMode.TheVariants.{Raw, Proposal, Channel,
 use Rattle.rules.specs.Answers.{refusal_number}
 use Rattle.rules.specs.Lists.{empty, total, ◌∈◌}
 use Rattle.rules.specs.Limits.{outbound_bytes}
-use Rattle.rules.specs.State.{Frame, Unacked, State}
+use Rattle.rules.specs.State.{Frame, State}
 use Rattle.rules.specs.Events.{Event}
 use Rattle.rules.specs.Progress.{Progress, goes, stops, stays, listing, ◌then◌, request}
 use Rattle.rules.specs.Sending.{exhausted, no_room, numbered, allocate}
@@ -23,7 +23,7 @@ use Rattle.rules.specs.Setup.{rejecting, receive_proposal, discard_outbound, rej
 use Rattle.rules.specs.Receiving.{duplicate, answered, queued, queue_full, queue_overrun, available, deliverable, terminal, above, keeping, delivered, enqueue, is_reject, is_first_proposal, hand_over, consume, confirm, deliver, drain_frame, next_frame, drain_turn, drains, drain, is_next, receive_again, receive_new, receive}
 use Rattle.rules.specs.Calls.{gets_data}
 use Rattle.rules.specs.Refusals.{excepted}
-use Rattle.rules.proofs.Lists.{if_rule, and_right, both}
+use Rattle.rules.proofs.Lists.{if_rule, and_right, empty-is}
 
 -- the reject body fits an empty store
 abbrev pub Small : State → Type 0
@@ -33,13 +33,9 @@ discards : (s : State) → Small s → Small (discard_outbound s)
 unfolding discard_outbound
 discards s h = if_rule Small (empty s.outbox.unacked) _ _ (λ e. h) (λ e. h)
 
-none_left : (us : List Unacked) → empty us ≡ true → us ≡ []
-none_left [] e = refl
-none_left (u ∷ us) e = absurd (both refl e)
-
 fits : (s : State) → Small s → empty s.outbox.unacked ≡ true → no_room s.fixed.reject s ≡ false
 unfolding total
-fits s h e = rw (none_left s.outbox.unacked e) (le-ltb 65536 (0 + length s.fixed.reject) (omega (arith, h)))
+fits s h e = rw (empty-is s.outbox.unacked e) (le-ltb 65536 (0 + length s.fixed.reject) (omega (arith, h)))
 
 -- ---- the data that came: its status, and its frame d. f is a frame that is delivered, d or one of the queue
 
