@@ -98,12 +98,15 @@ module _ {status : HostStatus} {t₀ : Turn} {w₀ : Numbers} {x : Queue} {i₀ 
         short = omega (arith, v.short);
       }
 
+  pub out_end : x.count ≤ i → Drains status t₀ w₀ x i₀ q b₀ (drained t w i b None) b.list b.delivery
+  out_end h =
+      let n : length (frames_of x q) ≤ i = omega (arith, frames-length x q v.pre.exact) in
+      out (λ s u. turn-none status (st s) (first-nothing (t.remote + 1) (drop i (frames_of x q)) (drop_of_length-le (frames_of x q) n)))
+
   pub out_empty : x.count ≤ i → Drains status t₀ w₀ x i₀ q b₀ (drained t w x.count b None) b.list b.delivery
   out_empty h =
-      let n : length (frames_of x q) ≤ i = omega (arith, frames-length x q v.pre.exact) in
       let e : i ≡ x.count = omega (arith, v.within) in
-      subst (λ (k : ℕ). Drains status t₀ w₀ x i₀ q b₀ (drained t w k b None) b.list b.delivery) e
-      (out (λ s u. turn-none status (st s) (first-nothing (t.remote + 1) (drop i (frames_of x q)) (drop_of_length-le (frames_of x q) n))))
+      subst (λ (k : ℕ). Drains status t₀ w₀ x i₀ q b₀ (drained t w k b None) b.list b.delivery) e (out_end h)
 
   pub out_unavailable : Available status t false → Drains status t₀ w₀ x i₀ q b₀ (drained t w i b None) b.list b.delivery
   out_unavailable g = out (λ s u. turn_off status (st s) (sym (g s fs (in_use w) u)))

@@ -268,13 +268,18 @@ pub fn drain(
     let mut step = s;
     let mut waiting = w;
     let mut start = queue::start(q, from);
-    for i in from..q.count {
+    let mut taken = from;
+    // left from inside at three different findings: the form that document 01 names
+    'drain: for i in from..q.count {
+        if !available(step.turn, status) {
+            break 'drain;
+        }
         let u = q.records[i];
-        if !available(step.turn, status)
-            || u.number != step.turn.remote + 1
-            || !deliverable(step.turn, u.number, u.kind)
-        {
-            return leave(step, waiting, i, None);
+        if u.number != step.turn.remote + 1 {
+            break 'drain;
+        }
+        if !deliverable(step.turn, u.number, u.kind) {
+            break 'drain;
         }
         let len = u.len as usize;
         let f = Frame {
@@ -289,6 +294,7 @@ pub fn drain(
         waiting.values[waiting.count] = u.number;
         waiting.count += 1;
         start += len;
+        taken = i + 1;
     }
-    leave(step, waiting, q.count, None)
+    leave(step, waiting, taken, None)
 }

@@ -8,7 +8,8 @@ use native.Mathlib.Omega.{arith}
 use lib.ListN.{length}
 use lib.Dec.{leb}
 use lib.Ieee.{Float}
-use borrow.Author.Tests.{le-leb, lt-leb, eq-eqb, ne_eqb}
+use borrow.Author.Tests.{le-leb, lt-leb, leb-true, eq-eqb, ne_eqb, not-false}
+use Rattle.std.proofs.lemmas.Bool.{and_parts}
 use Rattle.rules.specs.declared.Answer.TheVariants.{Flag}
 use Rattle.rules.specs.declared.Clock.{Clock}
 use Rattle.rules.specs.declared.Refusal.{Refusal}
@@ -83,6 +84,12 @@ module _ (e : ℕ) (time : Float) (f : Bool) where
   unfolding wrong_code
   read-code (Ok x) h = rw h (one_of_five x)
   read-code (Err x) h = bad_code h.1
+
+  pub known_one : (r : Result Connectivity Refusal) → ReadsConnectivity e r → is_err r ≡ false → (1 ≤ e) × (e ≤ 5)
+  known_one (Ok x) h n =
+      let z = and_parts (leb 1 (connectivity_number x)) (leb (connectivity_number x) 5) (not-false _ (one_of_five x)) in
+      (omega (arith, h, leb-true 1 _ z.0), omega (arith, h, leb-true _ 5 z.1))
+  known_one (Err x) h n = cc
 
   -- ---- the rule
 

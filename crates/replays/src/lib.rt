@@ -10,7 +10,7 @@ ghost use Rattle.session.specs.Promise.{CalledWithList};
 ghost use Rattle.replays.specs.Connects.{Replayed};
 
 use peer_session::SessionState;
-use rules::{Answer, Connectivity};
+use rules::{Answer, Connectivity, Refusal};
 use session::{ANY, Returned};
 
 // Whether an event sends anew what is unacked; the others do nothing.
@@ -70,14 +70,18 @@ pub fn connectivity(
 ) -> Returned
     ensures { CalledWithList (connects event time force) s list.old result list.new }
 {
-    let read = Connectivity::try_from(event);
-    match session::enters(s, list.len(), ANY, ANY, ANY, read.is_err(), false).and(read) {
-        Ok(event) if resends(event) => replayed(s, list, time, force),
-        Ok(_) => Returned {
+    let wrong = Connectivity::try_from(event).is_err();
+    if let Err(x) = session::enters(s, list.len(), ANY, ANY, ANY, wrong, false) {
+        return session::refused(s, x);
+    }
+    // By ranges of the number, the form that document 01 names; the entry's test stops the rest already, and keeps the order of the refusals.
+    match event {
+        1..=3 => Returned {
             session: s,
             answer: Answer::Flag(true),
             events: 0,
         },
-        Err(x) => session::refused(s, x),
+        4..=5 => replayed(s, list, time, force),
+        _ => session::refused(s, Refusal::UnknownCode),
     }
 }
