@@ -19,8 +19,6 @@ use parts::{Bytes, Halves, Words};
 
 // ---- whether they are such as calls leave
 
-// Tests stand one a line, as document 01 lists them, each with its return: `&&` over all of them would read no plainer.
-
 // How many numbers after the first are not above the one before them.
 fn falls_of(halves: &Halves, count: usize) -> u32
     requires { count ≤ 256 }
@@ -72,6 +70,7 @@ fn lens_of(halves: &Halves, count: usize) -> u64
     sum
 }
 
+// Tests stand one a line, each with its return, where names are bound or calls are made between them: `&&` over all of them would read no plainer.
 pub fn sound(words: &Words, halves: &Halves) -> bool
     ensures { (b : List ℕ) → result ≡ sound_outbox_of (outbox_in words.now halves.now b) }
 {

@@ -88,8 +88,7 @@ pub fn sound_acks(words: &Words) -> bool
 
 // ---- all of it
 
-// Tests stand one a line, as document 01 lists them, each with its return: `&&` over all of them would read no plainer.
-
+// Tests stand one a line, each with its return, where names are bound or calls are made between them: `&&` over all of them would read no plainer.
 pub fn sound(words: &Words, halves: &Halves, bytes: &Bytes) -> bool
     ensures { (t : Float) → Checked (opened_of (parts words.now halves.now bytes.now t)) result }
 {

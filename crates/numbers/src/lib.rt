@@ -21,7 +21,8 @@ pub struct Numbers {
     pub count: usize,
 }
 
-// The numbers that stay, with the count of events listed so far. Kept beside outbox's, whose one field differs: a generic one would read no plainer.
+// The numbers that stay, with the count of events listed so far. Kept beside outbox's, whose other field has another type: one with a type parameter would
+// name neither the messages nor the numbers.
 #[derive(Clone, Copy)]
 pub struct Released {
     pub numbers: Numbers,
@@ -160,7 +161,7 @@ pub fn ascends(v: Numbers) -> bool
 
 // ---- put
 
-// The index of the first number in use that is not below n.
+// The index of the first number in use that is not below n. No `partition_point`: it promises of an ordered list alone, and this one asks for no order.
 fn seat(v: Numbers, n: u64) -> usize
     requires { v.count ≤ 512 }
     ensures { result ≡ seat_of n (in_use v) }

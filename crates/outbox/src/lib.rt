@@ -33,7 +33,8 @@ pub struct Outbox {
     pub count: usize,
 }
 
-// The outbox with the count of events listed so far. Kept beside numbers's, whose one field differs: a generic one would read no plainer.
+// The outbox with the count of events listed so far. Kept beside numbers's, whose other field has another type: one with a type parameter would name neither
+// the messages nor the numbers.
 #[derive(Clone, Copy)]
 pub struct Released {
     pub outbox: Outbox,
@@ -49,21 +50,13 @@ pub struct Place {
 
 // ---- whether an outbox is one that calls leave
 
-// Tests stand one a line, as document 01 lists them, each with its return: `&&` over all of them would read no plainer.
-
 // Whether a record may follow those up to number last, whose bodies have sum bytes.
 pub fn admits_unacked(u: Unacked, last: u64, sum: usize, next: u64) -> bool
     requires { sum ≤ 65536 }
     ensures { result ≡ admits_unacked next last sum u }
 {
     let n = u64::from(u.number);
-    if n <= last {
-        return false;
-    }
-    if next <= n {
-        return false;
-    }
-    (u.len as usize) <= 65536 - sum
+    last < n && n < next && u.len as usize <= 65536 - sum
 }
 
 pub fn sound_unacked(o: Outbox) -> bool
@@ -82,19 +75,11 @@ pub fn sound_unacked(o: Outbox) -> bool
     true
 }
 
+#[tactic(auto, unfolding(crate::specs::Sound::sound_outbox_of))]
 pub fn sound_outbox(o: Outbox) -> bool
     ensures { result ≡ sound_outbox_of o }
 {
-    if 256 < o.count {
-        return false;
-    }
-    if o.next < 1 {
-        return false;
-    }
-    if 4294967296 < o.next {
-        return false;
-    }
-    sound_unacked(o)
+    o.count <= 256 && 1 <= o.next && o.next <= 4294967296 && sound_unacked(o)
 }
 
 // ---- messages join and leave

@@ -256,21 +256,14 @@ pub fn sound_acks(w: Numbers, r: Numbers, queued: usize, remote: u64) -> bool
         && numbers::ascends(r)
 }
 
-// Tests stand one a line, as document 01 lists them, each with its return: `&&` over all of them would read no plainer.
-
+#[tactic(auto, unfolding(crate::specs::Sound::sound_sizes))]
 pub fn sound_sizes(disposition: u8, handoff: usize, reject: usize) -> bool
     ensures { result ≡ sound_sizes disposition handoff reject }
 {
-    if disposition > Disposition::OutboundReject as u8 {
-        return false;
-    }
-    if 4096 < handoff {
-        return false;
-    }
-    if reject < 1 {
-        return false;
-    }
-    reject <= 64
+    disposition <= Disposition::OutboundReject as u8
+        && handoff <= 4096
+        && 1 <= reject
+        && reject <= 64
 }
 
 // How many bytes of a handoff count.
@@ -283,23 +276,13 @@ pub fn handoff_length(present: bool, len: usize) -> usize
     0
 }
 
+#[tactic(auto, unfolding(crate::specs::Sound::sound_of))]
 pub fn sound(s: SessionState) -> bool
     ensures { Checked s result }
 {
-    let o = s.outbox;
-    if !outbox::sound_outbox(o) {
-        return false;
-    }
-    let q = s.queue;
-    let p = s.policy;
-    if !queue::sound_queue(q, s.remote, p) {
-        return false;
-    }
-    let w = s.waiting;
-    let t = s.retry;
-    if !sound_acks(w, t, q.count, s.remote) {
-        return false;
-    }
     let h = handoff_length(s.handoff.present, s.handoff.len);
-    sound_sizes(s.stage.disposition, h, s.reject.len)
+    outbox::sound_outbox(s.outbox)
+        && queue::sound_queue(s.queue, s.remote, s.policy)
+        && sound_acks(s.waiting, s.retry, s.queue.count, s.remote)
+        && sound_sizes(s.stage.disposition, h, s.reject.len)
 }

@@ -29,26 +29,16 @@ pub struct Queue {
 
 // ---- sound
 
-// Tests stand one a line, as document 01 lists them, each with its return: `&&` over all of them would read no plainer.
-
 fn admits_queued(u: Queued, last: u64, sum: usize, p: Policy) -> bool
     requires { sum ≤ p.bytes }
     ensures { result ≡ admits_queued p last sum u }
 {
-    if u.number <= last {
-        return false;
-    }
-    if rules::LAST_REMOTE < u.number {
-        return false;
-    }
-    if u.kind > BodyKind::Reject as u8 {
-        return false;
-    }
     let n = u.len as usize;
-    if p.body < n {
-        return false;
-    }
-    n <= p.bytes - sum
+    last < u.number
+        && u.number <= rules::LAST_REMOTE
+        && u.kind <= BodyKind::Reject as u8
+        && n <= p.body
+        && n <= p.bytes - sum
 }
 
 // Whether the numbers rise from remote on, and each body and all of them are within the policy.
@@ -69,25 +59,16 @@ fn sound_queued(q: Queue, remote: u64, p: Policy) -> bool
 }
 
 // Whether the policy is within its limits and the queue within the policy.
+#[tactic(auto, unfolding(crate::specs::Sound::sound_queue))]
 pub fn sound_queue(q: Queue, remote: u64, p: Policy) -> bool
     ensures { result ≡ sound_queue p remote q }
 {
-    if rules::MAX_QUEUED_MESSAGES < p.messages {
-        return false;
-    }
-    if rules::MAX_QUEUED_BYTES < p.bytes {
-        return false;
-    }
-    if rules::MAX_PEER_BODY < p.body {
-        return false;
-    }
-    if p.messages < q.count {
-        return false;
-    }
-    if rules::LAST_REMOTE < remote {
-        return false;
-    }
-    sound_queued(q, remote, p)
+    p.messages <= rules::MAX_QUEUED_MESSAGES
+        && p.bytes <= rules::MAX_QUEUED_BYTES
+        && p.body <= rules::MAX_PEER_BODY
+        && q.count <= p.messages
+        && remote <= rules::LAST_REMOTE
+        && sound_queued(q, remote, p)
 }
 
 // ---- asked
@@ -100,7 +81,7 @@ pub fn find(q: Queue, number: u64) -> bool
     q.records[..q.count].iter().any(|u| u.number == number)
 }
 
-// How many frames at the front have a number up to this one.
+// How many frames at the front have a number up to this one. No `partition_point`: it promises of an ordered list alone, and this one asks for no order.
 pub fn up_to(q: Queue, number: u64) -> usize
     requires { q.count ≤ 256 }
     ensures { Leads number q result }

@@ -86,7 +86,7 @@ fn taken(s: SessionState, outbound: &mut [u8], record: Record) -> SessionState
 
 // ---- the handoff
 
-// Tests stand one a line, as document 01 lists them, each with its return: `&&` over all of them would read no plainer.
+// Tests stand one a line, each with its return, where names are bound or calls are made between them: `&&` over all of them would read no plainer.
 fn same_handoff(h: TerminalHandoff, given: Given) -> bool
     requires { h.len ≤ length h.body }
     ensures { result ≡ same_handoff (held_in h) (lent_handoff given.entry) }
