@@ -105,7 +105,7 @@ fn is_pairs(s: &[u8]) -> bool
 fn is_dash(s: &[u8]) -> bool
     ensures { result ≡ is_dash s.now }
 {
-    s == b"-"
+    stores::same_bytes(s, b"-")
 }
 
 // Reads bytes in hex into the front of out. Where s is wrong or longer than out, out stays as it is.
