@@ -6,11 +6,9 @@ use mathlib.Core.List.{List, [], ◌∷◌}
 use mathlib.Core.Option.{Option, none, some}
 use Prim.Native.Nat.{ℕ, ◌*◌, ◌≤◌}
 use native.Mathlib.Omega.{arith}
-use native.Mathlib.Nat.{add-zero}
 use lib.ListN.{length, take}
 use lib.Dec.{leb, ltb, eqb}
 use Rattle.stores.specs.Placed.{placed}
-use Rattle.stores.proofs.Laws.{placed-none}
 use Rattle.rules.specs.declared.Clock.{Clock}
 use Rattle.rules.specs.declared.Refusal.TheVariants.{AckOutOfRange}
 use Rattle.rules.specs.declared.Answer.TheVariants.{Flag}
@@ -22,7 +20,9 @@ use Rattle.rules.specs.Events.{Event, commit_requested, acknowledged, rejection_
 use Rattle.rules.specs.Setup.{rejection_complete}
 use Rattle.rules.specs.Acks.{survives, acknowledge, acknowledged_by}
 use Rattle.rules.specs.Buffers.{flat, repacked}
+use Rattle.events.specs.Emitted.{EmittedIf}
 use Rattle.events.specs.Written.{Listed, asked}
+use Rattle.events.proofs.Emitted.{emitted_listed}
 use Rattle.events.proofs.Laws.{listed_then}
 use Rattle.outbox.specs.declared.Outbox.{Outbox}
 use Rattle.outbox.specs.View.{end_u, unacked_of, ExactOutbox}
@@ -32,13 +32,9 @@ use Rattle.peer_session.specs.declared.SessionState.{SessionState}
 use Rattle.peer_session.specs.declared.TerminalHandoff.{TerminalHandoff}
 use Rattle.peer_session.specs.View.{handoff_of, state_of}
 use Rattle.peer_session.proofs.Held.{outbox_cong, stage_cong, state_cong}
-use Rattle.acks.specs.Steps.{ListedIf, clock_after, Acknowledges, notices, Acked}
+use Rattle.acks.specs.Steps.{clock_after, Acknowledges, notices, Acked}
 
 -- ---- what is listed
-
-module _ (code number : ℕ) (l : List ℕ) (n : ℕ) where
-  pub goes_not : (b : Bool) → b ≡ false → ListedIf b code number l n l n
-  goes_not b e = rw e (record { count = sym (add-zero n); words = sym (placed-none l (4 * n)) })
 
 -- a request lists one event at most
 pub asked-few : (c : Clock) {l l' : List ℕ} {n' : ℕ} → Listed (asked c) l 0 l' n' → n' ≤ 1
@@ -49,19 +45,11 @@ asked-few c {l} {l'} {n'} h = omega (arith, (h []).count, few (ltb c.persisted c
     few false = omega arith
 
 -- the two notices of an ack, and the failure, by their words
-pub rejection_listed : (b : Bool) {l l' : List ℕ} {n n' : ℕ} → ListedIf b 4 0 l n l' n' → Listed (if b then (rejection_acknowledged ∷ []) else []) l n l' n'
+pub notices-listed : (k : ℕ) (b c : Bool) {l l' l'' : List ℕ} {n n' n'' : ℕ} → 4 * n ≤ length l → EmittedIf b 4 0 0 0 l n l' n'
+    → EmittedIf c 3 k 0 0 l' n' l'' n'' → Listed (notices k b c) l n l'' n''
 unfolding flat listed
-rejection_listed true h us = record { count = h.count; words = λ at. h.words }
-rejection_listed false h us = record { count = h.count; words = λ at. h.words }
-
-pub ack_listed : (b : Bool) (k : ℕ) {l l' : List ℕ} {n n' : ℕ} → ListedIf b 3 k l n l' n' → Listed (if b then (acknowledged k ∷ []) else []) l n l' n'
-unfolding flat listed
-ack_listed true k h us = record { count = h.count; words = λ at. h.words }
-ack_listed false k h us = record { count = h.count; words = λ at. h.words }
-
-pub notices-listed : (k : ℕ) (b c : Bool) {l l' l'' : List ℕ} {n n' n'' : ℕ} → 4 * n ≤ length l → ListedIf b 4 0 l n l' n' → ListedIf c 3 k l' n' l'' n''
-    → Listed (notices k b c) l n l'' n''
-notices-listed k b c room h g us = listed_then room (rejection_listed b h us) (ack_listed c k g us)
+notices-listed k b c room h g us =
+    listed_then room (emitted_listed us rejection_acknowledged b h (λ at. refl)) (emitted_listed us (acknowledged k) c g (λ at. refl))
 
 pub failure-listed : {l l' : List ℕ} → l' ≡ placed l (4 * 0) (7 ∷ 7 ∷ 0 ∷ 0 ∷ []) → Listed (failure AckOutOfRange ∷ []) l 0 l' 1
 unfolding flat listed

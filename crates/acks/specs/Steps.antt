@@ -1,6 +1,5 @@
 -- The contracts of the steps of an ack. Assumes nothing.
-use Rattle.std.specs.Prelude.{ℕ, ◌+◌, ◌*◌, ◌<◌, ◌≡◌, Bool, true, false, List, [], ◌∷◌, ◌++◌, length, if◌then◌else◌}
-use Rattle.stores.specs.Placed.{placed}
+use Rattle.std.specs.Prelude.{ℕ, ◌+◌, ◌<◌, ◌≡◌, Bool, true, false, List, [], ◌∷◌, ◌++◌, length, if◌then◌else◌}
 use Rattle.rules.specs.declared.Clock.{Clock}
 use Rattle.rules.specs.declared.Answer.TheVariants.{Flag, Refused}
 use Rattle.rules.specs.declared.Refusal.TheVariants.{AckOutOfRange}
@@ -16,12 +15,6 @@ use Rattle.peer_session.specs.declared.SessionState.{SessionState}
 use Rattle.peer_session.specs.View.{state_of, Exact}
 use Rattle.peer_session.specs.Breaks.{Broken}
 use Rattle.session.specs.declared.Returned.{Returned}
-
--- ---- an event of a code and a number, where it is to go
-
-pub record ListedIf (goes : Bool) (code number : ℕ) (l : List ℕ) (n : ℕ) (l' : List ℕ) (n' : ℕ) : Type 0 where
-  pub count : n' ≡ n + (if goes then 1 else 0)
-  pub words : l' ≡ placed l (4 * n) (if goes then (code ∷ number ∷ 0 ∷ 0 ∷ []) else [])
 
 -- ---- an ack in range
 

@@ -8,7 +8,7 @@ ghost use Rattle.rules.specs.State.{is_raw};
 ghost use Rattle.events.specs.Written.{Listed};
 ghost use Rattle.queue.specs.View.{ExactQueue};
 ghost use Rattle.session.specs.Promise.{CalledWithList, CalledWithStores, ToldWithList};
-ghost use Rattle.acks.specs.Steps.{ListedIf, clock_after, Ready, Acknowledges, notices, Acked, OutOfRange};
+ghost use Rattle.acks.specs.Steps.{clock_after, Ready, Acknowledges, notices, Acked, OutOfRange};
 ghost use Rattle.acks.specs.Reports.{Reports, full_of, MayRetry};
 
 use numbers::Numbers;
@@ -17,18 +17,6 @@ use rules::{Answer, Clock, EventCode, FrameKind, ReceiveMode, Refusal};
 use session::{ANY, Returned, Told};
 
 // ---- an ack
-
-// Lists event number n with a code and a number, where it is to go. Returns the next event's number. The code is the list's word, as `events::emit` takes it.
-fn list_if(goes: bool, list: &mut [u64], n: usize, code: u64, number: u64) -> usize
-    requires { 4 * n + 4 ≤ length list.old }
-    ensures { ListedIf goes code number list.old n list.new result }
-{
-    if goes {
-        events::emit(list, n, code, number, 0, 0);
-        return n + 1;
-    }
-    n
-}
 
 // `==`, said in the rule book's words.
 pub fn is_raw(mode: ReceiveMode) -> bool
@@ -91,14 +79,16 @@ pub fn notify_acknowledged(
     requires { 4 * n + 8 ≤ length list.old }
     ensures { Listed (notices number complete raw) list.old n list.new result }
 {
-    let m = list_if(
+    let m = events::emit_if(
         complete,
         list,
         n,
         EventCode::RejectionAcknowledged as u64,
         0,
+        0,
+        0,
     );
-    list_if(raw, list, m, EventCode::Acknowledged as u64, number)
+    events::emit_if(raw, list, m, EventCode::Acknowledged as u64, number, 0, 0)
 }
 
 // An ack in range.

@@ -8,7 +8,7 @@ use queue::Queue;
 use rules::{Clock, Setup, Terms};
 use scripts::print_field;
 
-// No From: the type is of the crate `rules`, and the numbers are of this print alone.
+// The numbers of parts' `SetupCode` and of include/link.h. No From: the type is of the crate `rules`, and this crate does not stand on `parts`.
 fn setup_number(setup: Setup) -> u64 {
     match setup {
         Setup::None => 0,

@@ -3,7 +3,7 @@
 use crate::{Buffers, fields};
 use scripts::Fields;
 
-// Kept beside `starts::Reliable`: the reader stands on the crate `rules` alone, and on none that starts a session.
+// Kept beside `starts::Reliable`, of the same three numbers: this crate stands on `rules`, `text` and `scripts`, and reading a line needs no session.
 #[derive(Clone, Copy)]
 pub struct Numbers {
     pub message_number: u64,

@@ -1,20 +1,21 @@
 -- The steps of a commit, by their tests. Assumes nothing.
-use mathlib.Core.Path.{◌≡◌, refl, sym, ap}
+use mathlib.Core.Path.{refl, sym, ap}
 use mathlib.Core.Bool.{Bool, true, false}
-use mathlib.Core.List.{List, [], ◌∷◌, map}
-use Prim.Native.Nat.{ℕ, ◌+◌, ◌*◌, ◌≤◌, ◌<◌}
+use mathlib.Core.List.{List, map}
+use Prim.Native.Nat.{ℕ, ◌≤◌, ◌<◌}
 use native.Mathlib.Omega.{arith}
 use lib.ListN.{length}
 use borrow.Author.Tests.{le-leb, lt-leb}
-use Rattle.stores.specs.Placed.{placed}
 use Rattle.rules.specs.declared.PreparedCommit.{PreparedCommit}
 use Rattle.rules.specs.State as R
 use Rattle.rules.specs.State.{clock_is}
-use Rattle.rules.specs.Events.{listed}
+use Rattle.rules.specs.Events.{committed, listed}
 use Rattle.rules.specs.Progress.{goes}
 use Rattle.rules.specs.Commits.{release, after_release, released_frames, release_by}
 use Rattle.rules.specs.Buffers.{flat}
+use Rattle.events.specs.Emitted.{EmittedIf}
 use Rattle.events.specs.Written.{Listed}
+use Rattle.events.proofs.Emitted.{emitted_listed}
 use Rattle.events.proofs.Laws.{listed-none, listed_then}
 use Rattle.numbers.specs.declared.Released as N
 use Rattle.numbers.specs.Seats.{ReleasesAcks}
@@ -96,9 +97,7 @@ module _ (c : PreparedCommit) (s : SessionState) (l : List ℕ) where
 
 -- ---- told
 
-pub told : (b : Bool) (l l' : List ℕ) (n : ℕ) → b ≡ true → l' ≡ placed l (4 * n) (6 ∷ 0 ∷ 0 ∷ 0 ∷ []) → Listed (notices b) l n l' (n + 1)
+pub told : (b : Bool) {l l' : List ℕ} {n n' : ℕ} → EmittedIf b 6 0 0 0 l n l' n' → Listed (notices b) l n l' n'
 unfolding flat listed
-told b l l' n e w us = rw e (record { count = refl; words = λ at. w })
-
-pub not_told : (b : Bool) (l : List ℕ) (n : ℕ) → b ≡ false → Listed (notices b) l n l n
-not_told b l n e us = rw e (listed-none l n)
+told true h us = emitted_listed us committed true h (λ at. refl)
+told false h us = emitted_listed us committed false h (λ at. refl)

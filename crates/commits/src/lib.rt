@@ -35,10 +35,7 @@ pub fn persisted_by(c: Clock, commit: PreparedCommit, persisted: bool) -> Clock
     if !persisted {
         return c;
     }
-    if commit.generation <= c.persisted {
-        return c;
-    }
-    let generation = commit.generation;
+    let generation = c.persisted.max(commit.generation);
     let mut r = c;
     r.persisted = generation;
     r
@@ -86,11 +83,7 @@ pub fn notify_committed(persisted: bool, list: &mut [u64], n: usize) -> usize
     requires { 4 * n + 4 ≤ length list.old }
     ensures { Listed (notices persisted) list.old n list.new result }
 {
-    if persisted {
-        events::emit(list, n, EventCode::Committed as u64, 0, 0, 0);
-        return n + 1;
-    }
-    n
+    events::emit_if(persisted, list, n, EventCode::Committed as u64, 0, 0, 0)
 }
 
 // The record is what `prepare_commit` answered, so what came after it stays; persisted says whether the host's write succeeded.

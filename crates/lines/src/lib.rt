@@ -7,8 +7,8 @@ ghost use Rattle.lines.specs.Numerals.{Decimals, hex16_text};
 
 use std::io::{Read, Stdin, Stdout, Write};
 
-// The digits of v, at most 20. As text::put_bytes, put_decimal and put_hex16 take buffer and count, and no Output: they write into any buffer, and
-// promise what they write, where Output's methods promise no text.
+// The digits of v, at most 20. Output's methods promise no text; as text::put_bytes, put_decimal and put_hex16 promise what they write, and write into
+// any buffer, so they take buffer and count.
 pub fn put_decimal(out: &mut [u8], n: usize, v: u64) -> usize
     requires { n + 20 ≤ length out.old }
     ensures { Decimals out.old n v result out.new }

@@ -9,6 +9,7 @@ use Rattle.rules.specs.Lists.{Bytes}
 use Rattle.rules.specs.State as R
 use Rattle.rules.specs.Commits as C
 use Rattle.rules.proofs.Events.{start-release}
+use Rattle.events.specs.Emitted.{EmittedIf}
 use Rattle.outbox.specs.declared.Unacked.{Unacked}
 use Rattle.outbox.specs.View.{unacked_of, unacked, blank_u}
 use Rattle.outbox.specs.Records.{releases_u, released_u, release_u}
@@ -21,7 +22,6 @@ use Rattle.parts.specs.Parts.{at, unacked_at, outbox_in}
 use Rattle.parts.specs.Frames.{Past}
 use Rattle.parts.proofs.Seats.{length-seats, get_d_seats}
 use Rattle.link_outbox.specs.Steps.{Frees, freed}
-use Rattle.outbox.specs.Steps.{SentIf}
 use Rattle.link_outbox.proofs.Records.{by_eq, past_same, twice_low, twice_high, twice_other, past-set, unacked-same, flagged-seats}
 
 pub not_not : (t : Bool) → not (not t) ≡ t
@@ -90,7 +90,7 @@ module _ (w h b : List ℕ) where
 
     -- b' are the flags as they are when the record is looked at
     pub listing-turn : (q : Unacked → Bool) → ((u : Unacked) (s : Bytes) → p (unacked u s) ≡ q u) → (b' : List ℕ) → unacked_at h b' i ≡ unacked_at h b i
-        → (t : Bool) → t ≡ q (unacked_at h b' i) → (l' : List ℕ) (k' : ℕ) → length l' ≡ length l → SentIf t (at h i) (at h (256 + i)) from l k l' k'
+        → (t : Bool) → t ≡ q (unacked_at h b' i) → (l' : List ℕ) (k' : ℕ) → length l' ≡ length l → EmittedIf t 8 (at h i) from (at h (256 + i)) l k l' k'
         → (s : ℕ) → s ≡ at h (256 + i) → Listing p (outbox_in w h b) l₀ n l' k' (from + s) (i + 1)
     listing-turn q agrees b' same t et l' k' el sn s es =
         subst (λ (x : ℕ). Listing p (outbox_in w h b) l₀ n l' k' (from + x) (i + 1)) (sym es)

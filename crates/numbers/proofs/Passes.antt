@@ -9,7 +9,6 @@ use native.Mathlib.Numerals.{add-one}
 use lib.ListN.{length, take, drop, get_or, set}
 use lib.Seq.{take-suc, take_all, take-length, length-take-le}
 use lib.Dec.{ltb, leb}
-use borrow.Author.Tests.{le-leb, lt-leb}
 use Rattle.stores.specs.Placed.{placed}
 use Rattle.stores.proofs.Packs.{map-append}
 use Rattle.stores.proofs.Sifts.{Sifted, sifted_none, sifted_at, sifted_more, sifted_all, kept_next}
@@ -17,7 +16,9 @@ use Rattle.rules.specs.Lists.{kept}
 use Rattle.rules.specs.Events.{Event, send_ack, listed}
 use Rattle.rules.specs.Buffers.{flat}
 use Rattle.rules.specs.Commits.{releases_ack}
-use Rattle.events.specs.Written.{Listed}
+use Rattle.events.specs.Written.{ListedIn, Listed}
+use Rattle.events.specs.Emitted.{EmittedIf}
+use Rattle.events.proofs.Emitted.{emitted_listed}
 use Rattle.events.proofs.Laws.{listed-none, listed_then}
 use Rattle.numbers.specs.declared.Numbers.{Numbers}
 use Rattle.numbers.specs.declared.ReleasedRun.{ReleasedRun}
@@ -64,19 +65,14 @@ all-next l i h = ap (λ (j : ℕ). map send_ack (take j l)) (add-one i) ∙ ap (
 
 -- one number, chosen or not
 module _ (upto x : ℕ) where
-  chosen : x ≤ upto → map send_ack (kept (releases_ack upto) (x ∷ [])) ≡ send_ack x ∷ []
-  unfolding kept
-  chosen h = ap (λ (t : Bool). map send_ack (if t then (x ∷ []) else [])) (le-leb x upto h)
-
-  passed : upto < x → map send_ack (kept (releases_ack upto) (x ∷ [])) ≡ []
-  unfolding kept
-  passed h = ap (λ (t : Bool). map send_ack (if t then (x ∷ []) else [])) (lt-leb x upto h)
-
-  pub listed_chosen : (l l' : List ℕ) (n : ℕ) → x ≤ upto → l' ≡ placed l (4 * n) (9 ∷ x ∷ 0 ∷ 0 ∷ []) → Listed (map send_ack (kept (releases_ack upto) (x ∷ []))) l n l' (n + 1)
-  listed_chosen l l' n h e = subst (λ (es : List Event). Listed es l n l' (n + 1)) (sym (chosen h)) (one-listed x l l' n e)
-
-  pub listed_passed : (l : List ℕ) (n : ℕ) → upto < x → Listed (map send_ack (kept (releases_ack upto) (x ∷ []))) l n l n
-  listed_passed l n h = subst (λ (es : List Event). Listed es l n l n) (sym (passed h)) (λ us. listed-none l n)
+  pub listed_one : {l l' : List ℕ} {n n' : ℕ} → EmittedIf (leb x upto) 9 x 0 0 l n l' n' → Listed (map send_ack (kept (releases_ack upto) (x ∷ []))) l n l' n'
+  unfolding kept flat listed
+  listed_one {l} {l'} {n} {n'} h us =
+      subst (λ (es : List Event). ListedIn us es l n l' n') (go (leb x upto)) (emitted_listed us (send_ack x) (leb x upto) h (λ at. refl))
+    where
+      go : (t : Bool) → (if t then (send_ack x ∷ []) else []) ≡ map send_ack (if t then (x ∷ []) else [])
+      go true = refl
+      go false = refl
 
   pub one_at_most : length (map send_ack (kept (releases_ack upto) (x ∷ []))) ≤ 1
   unfolding kept

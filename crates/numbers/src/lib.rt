@@ -90,11 +90,7 @@ fn list_one(upto: u64, x: u64, list: &mut [u64], n: usize) -> usize
     requires { 4 * n + 4 ≤ length list.old }
     ensures { Listed (map send_ack (kept (releases_ack upto) (x ∷ []))) list.old n list.new result }
 {
-    if x <= upto {
-        events::emit(list, n, EventCode::SendAck as u64, x, 0, 0);
-        return n + 1;
-    }
-    n
+    events::emit_if(x <= upto, list, n, EventCode::SendAck as u64, x, 0, 0)
 }
 
 // The numbers of a run up to upto are listed by code 9, from event number n on; the later ones move to its front.

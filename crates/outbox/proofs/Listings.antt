@@ -6,7 +6,6 @@ use mathlib.Core.Bool.{Bool, true, false}
 use mathlib.Core.List.{List, [], ◌∷◌, ◌++◌, map, map-append}
 use Prim.Native.Nat.{ℕ, zero, suc, ◌+◌, ◌-◌, ◌*◌, ◌≤◌, ◌<◌}
 use native.Mathlib.Omega.{arith}
-use native.Mathlib.Nat.{add-zero}
 use native.Mathlib.Numerals.{add-one}
 use lib.ListN.{length, take, drop, get_or, length-drop}
 use lib.Seq.{slice, take-suc, take_all, get_or-take, length-take-le}
@@ -14,7 +13,6 @@ use lib.Dec.{ltb}
 use borrow.Author.Tests.{ltb-true, eq-eqb, ne_eqb}
 use Rattle.stores.specs.Packed.{cut}
 use Rattle.stores.specs.Placed.{placed}
-use Rattle.stores.proofs.Laws.{placed-none}
 use Rattle.stores.proofs.Packs.{take-cut, cut-append, length_cut, total_split, total-step}
 use Rattle.rules.specs.Lists.{Bytes, kept, before, total, rising}
 use Rattle.rules.specs.State as R
@@ -23,12 +21,13 @@ use Rattle.rules.specs.Events.{Event, message, commit_requested, acknowledged, r
 use Rattle.rules.specs.Buffers.{flat}
 use Rattle.rules.specs.Commits.{data_frame}
 use Rattle.rules.proofs.Lists.{and_left, and_right, kept_append}
+use Rattle.events.specs.Emitted.{EmittedIf}
 use Rattle.events.specs.Written.{ListedIn}
+use Rattle.events.proofs.Emitted.{emitted_few}
 use Rattle.events.proofs.Laws.{listed-none, listed_then}
 use Rattle.outbox.specs.declared.Unacked.{Unacked}
 use Rattle.outbox.specs.declared.Outbox.{Outbox}
 use Rattle.outbox.specs.View.{num_u, len_u, unacked, used_u, unacked_of, end_u, blank_u}
-use Rattle.outbox.specs.Steps.{SentIf}
 use Rattle.outbox.proofs.View.{SoundU}
 
 -- ---- the words of code 8 depend on where bodies start, and on nothing else of the unacked messages
@@ -96,7 +95,7 @@ one_kept : (p : R.Unacked → Bool) (m : R.Unacked) (t : Bool) → p m ≡ t →
 unfolding kept
 one_kept p m t e = ap (λ (b : Bool). if b then (m ∷ []) else []) e
 
-sent-one : (us : List R.Unacked) (t : Bool) (u : Unacked) (b : Bytes) (at : ℕ) (l l' : List ℕ) (n n' : ℕ) → SentIf t u.number u.len at l n l' n'
+sent-one : (us : List R.Unacked) (t : Bool) (u : Unacked) (b : Bytes) (at : ℕ) (l l' : List ℕ) (n n' : ℕ) → EmittedIf t 8 u.number at u.len l n l' n'
     → start_of u.number us ≡ at → length b ≡ u.len → ListedIn us (map data_frame (if t then (unacked u b ∷ []) else [])) l n l' n'
 unfolding flat listed
 sent-one us true u b at l l' n n' s e k =
@@ -107,15 +106,6 @@ sent-one us true u b at l l' n n' s e k =
           ∙ ap (λ (x : ℕ). placed l (4 * n) (8 ∷ u.number ∷ start_of u.number us ∷ x ∷ [])) (sym k);
     }
 sent-one us false u b at l l' n n' s e k = record { count = s.count; words = λ a. s.words }
-
--- as code makes it
-pub sends_not : (number len at : ℕ) (l : List ℕ) (n : ℕ) (t : Bool) → t ≡ false → SentIf t number len at l n l n
-sends_not number len at l n t e =
-    subst⁻¹ (λ (b : Bool). SentIf b number len at l n l n) e (record { count = sym (add-zero n); words = sym (placed-none l (4 * n)) })
-
-sent-few : (t : Bool) (number len at : ℕ) (l l' : List ℕ) (n n' : ℕ) → SentIf t number len at l n l' n' → n' ≤ n + 1
-sent-few true number len at l l' n n' s = omega (arith, s.count)
-sent-few false number len at l l' n n' s = omega (arith, s.count)
 
 -- ---- What a loop keeps that lists the sends of the records that pass p: those before index i are listed, the body of the next starts at at
 
@@ -146,7 +136,7 @@ listing_none p x l n s full room =
 
 module _ {p : R.Unacked → Bool} {x : Outbox} {l₀ : List ℕ} {n : ℕ} {l : List ℕ} {k at i : ℕ} (g : Listing p x l₀ n l k at i) where
   module _ (h : i < x.count) (q : Unacked → Bool) (agrees : (u : Unacked) (b : Bytes) → p (unacked u b) ≡ q u) where
-    listing-words : (l' : List ℕ) (k' : ℕ) → SentIf (q (get_or x.records i blank_u)) (get_or x.records i blank_u).number (get_or x.records i blank_u).len at l k l' k' → (o : Bytes) → end_u x ≤ length o
+    listing-words : (l' : List ℕ) (k' : ℕ) → EmittedIf (q (get_or x.records i blank_u)) 8 (get_or x.records i blank_u).number at (get_or x.records i blank_u).len l k l' k' → (o : Bytes) → end_u x ≤ length o
         → ListedIn (unacked_of x o) (map data_frame (kept p (take (i + 1) (unacked_of x o)))) l₀ n l' k'
     unfolding unacked_of start_of
     listing-words l' k' s o e =
@@ -175,7 +165,7 @@ module _ {p : R.Unacked → Bool} {x : Outbox} {l₀ : List ℕ} {n : ℕ} {l : 
         subst⁻¹ (λ (es : List Event). ListedIn ms es l₀ n l' k') evs
         (listed_then (omega (arith, g.room)) (g.words o e) (sent-one ms (q u) u b at l l' k k' s st lb))
 
-    pub listing_more : (l' : List ℕ) (k' : ℕ) → length l' ≡ length l → SentIf (q (get_or x.records i blank_u)) (get_or x.records i blank_u).number (get_or x.records i blank_u).len at l k l' k'
+    pub listing_more : (l' : List ℕ) (k' : ℕ) → length l' ≡ length l → EmittedIf (q (get_or x.records i blank_u)) 8 (get_or x.records i blank_u).number at (get_or x.records i blank_u).len l k l' k'
         → Listing p x l₀ n l' k' (at + (get_or x.records i blank_u).len) (i + 1)
     listing_more l' k' el s =
         record {
@@ -184,18 +174,18 @@ module _ {p : R.Unacked → Bool} {x : Outbox} {l₀ : List ℕ} {n : ℕ} {l : 
           room = g.room;
           same = el ∙ g.same;
           within = omega arith;
-          few = omega (arith, g.few, sent-few (q (get_or x.records i blank_u)) (get_or x.records i blank_u).number (get_or x.records i blank_u).len at l l' k k' s);
+          few = omega (arith, g.few, emitted_few s);
           start = omega (arith, g.start, total-step len_u x.records i x.count blank_u h (omega (arith, g.full, g.sound.few)));
           words = listing-words l' k' s;
         }
 
     -- the same, of a record and a test that a call answered
-    pub listing-next : (u : Unacked) → u ≡ get_or x.records i blank_u → (t : Bool) → t ≡ q u → (l' : List ℕ) (k' : ℕ) → length l' ≡ length l → SentIf t u.number u.len at l k l' k'
+    pub listing-next : (u : Unacked) → u ≡ get_or x.records i blank_u → (t : Bool) → t ≡ q u → (l' : List ℕ) (k' : ℕ) → length l' ≡ length l → EmittedIf t 8 u.number at u.len l k l' k'
         → Listing p x l₀ n l' k' (at + u.len) (i + 1)
     listing-next u eu t et l' k' el s =
-        let s1 : SentIf (q u) u.number u.len at l k l' k' = subst (λ (b : Bool). SentIf b u.number u.len at l k l' k') et s in
-        let s2 : SentIf (q (get_or x.records i blank_u)) (get_or x.records i blank_u).number (get_or x.records i blank_u).len at l k l' k' =
-        subst (λ (v : Unacked). SentIf (q v) v.number v.len at l k l' k') eu s1 in
+        let s1 : EmittedIf (q u) 8 u.number at u.len l k l' k' = subst (λ (b : Bool). EmittedIf b 8 u.number at u.len l k l' k') et s in
+        let s2 : EmittedIf (q (get_or x.records i blank_u)) 8 (get_or x.records i blank_u).number at (get_or x.records i blank_u).len l k l' k' =
+        subst (λ (v : Unacked). EmittedIf (q v) 8 v.number at v.len l k l' k') eu s1 in
         subst⁻¹ (λ (v : Unacked). Listing p x l₀ n l' k' (at + v.len) (i + 1)) eu (listing_more l' k' el s2)
 
   -- all are listed

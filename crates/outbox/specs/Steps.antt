@@ -1,7 +1,6 @@
 -- The contracts of `outbox`. Assumes nothing.
-use Rattle.std.specs.Prelude.{ℕ, ◌+◌, ◌*◌, ◌≤◌, ◌<◌, ◌≡◌, Bool, List, [], ◌∷◌, ◌++◌, map, length, if◌then◌else◌}
+use Rattle.std.specs.Prelude.{ℕ, ◌+◌, ◌≤◌, ◌<◌, ◌≡◌, List, [], ◌∷◌, ◌++◌, map, length}
 use Rattle.rules.specs.Buffers.{repacked}
-use Rattle.stores.specs.Placed.{placed}
 use Rattle.rules.specs.Lists.{Bytes, kept, packed}
 use Rattle.rules.specs.State as R
 use Rattle.rules.specs.State.{body_of}
@@ -44,11 +43,6 @@ pub record Flagged (f : R.Unacked → R.Unacked) (x : Outbox) (r : Outbox) : Typ
   pub ends : end_u r ≡ end_u x
   pub exact : (size : ℕ) → ExactOutbox x size → ExactOutbox r size
   pub unacked : (o : Bytes) → end_u x ≤ length o → unacked_of r o ≡ map f (unacked_of x o)
-
--- a send is listed where it is to go: code 8 with the message's number, where its body starts, and how long it is
-pub record SentIf (goes : Bool) (number len at : ℕ) (l : List ℕ) (n : ℕ) (l' : List ℕ) (n' : ℕ) : Type 0 where
-  pub count : n' ≡ n + (if goes then 1 else 0)
-  pub words : l' ≡ placed l (4 * n) (if goes then (8 ∷ number ∷ at ∷ len ∷ []) else [])
 
 -- what a commit releases: sends are listed, by rising number
 pub record Releases (upto : ℕ) (x : Outbox) (l : List ℕ) (n : ℕ) (r : Released) (l' : List ℕ) : Type 0 where

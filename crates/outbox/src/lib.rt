@@ -4,10 +4,11 @@
 ghost use Rattle.std.specs.Prelude.{◌≡◌, true, [], ◌+◌, ◌*◌, ◌≤◌, length};
 ghost use Rattle.rules.specs.Lists.{kept};
 ghost use Rattle.rules.specs.Acks.{survives, sent};
+ghost use Rattle.events.specs.Emitted.{EmittedIf};
 ghost use Rattle.outbox.specs.View.{end_u, used_u, unacked_of, ExactOutbox};
 ghost use Rattle.outbox.specs.Sound.{admits_unacked, sound_unacked, sound_outbox_of};
 ghost use Rattle.outbox.specs.Records.{survives_u, releases_u, released_u, sent_u, place_u};
-ghost use Rattle.outbox.specs.Steps.{Room, Appended, Left, Flagged, SentIf, Releases, Replays};
+ghost use Rattle.outbox.specs.Steps.{Room, Appended, Left, Flagged, Releases, Replays};
 ghost use Rattle.outbox.specs.Sweeps.{Lowers};
 
 use rules::EventCode;
@@ -168,23 +169,21 @@ pub fn discard(o: Outbox, store: &mut [u8]) -> Outbox
 
 // ---- sends are listed
 
-// Lists a send, code 8, as event number n, where it is to go; the body has len bytes from index at on. Returns the next event's number.
+// Lists a send, code 8, as event number n, where it is to go; the body has len bytes from index at on. Returns the next event's number. Stays a function:
+// four callers, here and in link_outbox, would each say the code and the three conversions.
 pub fn send_if(goes: bool, number: u32, len: u32, list: &mut [u64], n: usize, at: usize) -> usize
     requires { 4 * n + 4 ≤ length list.old }
-    ensures { SentIf goes number len at list.old n list.new result }
+    ensures { EmittedIf goes 8 number at len list.old n list.new result }
 {
-    if goes {
-        events::emit(
-            list,
-            n,
-            EventCode::SendData as u64,
-            u64::from(number),
-            at as u64,
-            u64::from(len),
-        );
-        return n + 1;
-    }
-    n
+    events::emit_if(
+        goes,
+        list,
+        n,
+        EventCode::SendData as u64,
+        u64::from(number),
+        at as u64,
+        u64::from(len),
+    )
 }
 
 // Whether a commit that captured the numbers up to upto releases a record.

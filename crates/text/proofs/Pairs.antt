@@ -8,7 +8,7 @@ use native.Mathlib.Nat.{zero-add}
 use lib.Dec.{leb, eqb}
 use lib.ListN.{length, get_or, set}
 use borrow.Author.Tests.{ltb-true, lt-ltb, le-leb, lt-leb, eq-eqb, ne_eqb, eqb-true}
-use Rattle.rules.specs.Lists.{all, empty}
+use Rattle.rules.specs.Lists.{all, empty, same}
 use Rattle.rules.proofs.Lists.{and_left, and_right}
 use Rattle.stores.specs.Placed.{placed}
 use Rattle.stores.proofs.Laws.{placed-none}
@@ -68,13 +68,19 @@ run-pairs s {out₀} {out} {n} {i} {v} r h k e =
 
 -- ---- tests
 
-pub dash_other : (s : List ℕ) → (length s ≡ 1 → ⊥) → false ≡ is_dash s
-unfolding is_dash
-dash_other s h = rw (ne_eqb (length s) 1 h)
-
-pub dash_one : (s : List ℕ) → length s ≡ 1 → eqb (get_or s 0 0) 45 ≡ is_dash s
-unfolding is_dash
-dash_one s h = rw (eq-eqb (length s) 1 h)
+pub dash_same : (s : List ℕ) → same s (45 ∷ []) ≡ is_dash s
+unfolding is_dash same
+dash_same [] = refl
+dash_same (a ∷ []) = go (eqb a 45)
+  where
+    go : (t : Bool) → t && true ≡ t
+    go true = refl
+    go false = refl
+dash_same (a ∷ b ∷ s) = go (eqb a 45) ∙ ap (λ (t : Bool). t && eqb a 45) (sym (ne_eqb (length (a ∷ b ∷ s)) 1 (λ e. omega (arith, e))))
+  where
+    go : (t : Bool) → t && false ≡ false
+    go true = refl
+    go false = refl
 
 pub pairs-none : (s : List ℕ) → length s ≡ 0 → false ≡ is_pairs s
 unfolding is_pairs

@@ -105,7 +105,7 @@ fn is_pairs(s: &[u8]) -> bool
 fn is_dash(s: &[u8]) -> bool
     ensures { result ≡ is_dash s.now }
 {
-    s.len() == 1 && s[0] == b'-'
+    stores::same_bytes(s, b"-")
 }
 
 // Reads bytes in hex into the front of out. Where s is wrong or longer than out, out stays as it is.
@@ -200,9 +200,9 @@ pub fn hex_after(s: &[u8], end: usize, out: &mut [u8]) -> Option<(usize, usize)>
     Some((n, e))
 }
 
-// Puts part after the n bytes of a line. A line that line does not hold stays out, and has the size line.len() + 1: a number and no Option, since that
-// size comes in again with the line's next part. Buffer and size are no struct: the one caller of gather_line, `lines::Input::read_line`, is lent the
-// buffer and starts the size at 0 for each line, and the promise says of each what it becomes.
+// Puts part after the n bytes of a line. A line that line does not hold stays out, and has the size line.len() + 1: a number, since the size comes in
+// again with the line's next part, and a line too long stays too long. Buffer and size are no struct: the one caller of gather_line,
+// `lines::Input::read_line`, is lent the buffer and starts the size at 0 for each line, and the promise says of each what it becomes.
 pub fn gather(line: &mut [u8], n: usize, part: &[u8]) -> usize
     requires { length line.old < 18446744073709551615 }
     ensures { Grown line.old n part.now result line.new }
@@ -214,7 +214,7 @@ pub fn gather(line: &mut [u8], n: usize, part: &[u8]) -> usize
     n + part.len()
 }
 
-// Puts the bytes of chunk from index at on, up to a line end, after the n bytes of a line. By find: `position` would want an `unwrap_or` for the end,
+// Puts the bytes of chunk from index at on, up to a line end, after the n bytes of a line. By find: `position` would need an `unwrap_or` for the end,
 // and a `map` with one more closure in place of the test.
 pub fn gather_line(chunk: &[u8], at: usize, line: &mut [u8], n: usize) -> Piece
     requires { (at ≤ length chunk.now) × (length line.old < 18446744073709551615) }
@@ -226,8 +226,8 @@ pub fn gather_line(chunk: &[u8], at: usize, line: &mut [u8], n: usize) -> Piece
     Piece { size, next }
 }
 
-// The functions put_.. write at index n of out, and return the index after what they wrote. They take buffer and count, and no `lines::Output`, which
-// owns one buffer of 65,536 bytes: as its methods they would write into no other.
+// The functions put_.. write at index n of out, and return the index after what they wrote. They are no methods of `lines::Output`, whose methods promise
+// no text: these promise what they write. Nor would they then write into any buffer but Output's own, of 65,536 bytes.
 pub fn put_byte(out: &mut [u8], n: usize, b: u8) -> usize
     requires { n < length out.old }
     ensures { Put out.old n (b ∷ []) result out.new }

@@ -1,8 +1,9 @@
-use Rattle.events.proofs.Laws.{request_yes, request_no}
+use mathlib.Core.Path.{refl}
+use Rattle.rules.specs.Events.{commit_requested, listed}
+use Rattle.rules.specs.Buffers.{flat}
+use Rattle.events.proofs.Emitted.{emitted_listed}
 use Rattle.events.proofs.request.Goals as goal
 
-pub returns-then-c : goal.returns-then-c
-returns-then-c c = request_yes c.args.c c.args.list.now c.emit.new.list c.args.n c.if-c.true c.emit.ensures
-
 pub returns : goal.returns
-returns c = request_no c.args.c c.args.list.now c.args.n c.if-c.false
+unfolding flat listed
+returns c = λ us. emitted_listed us commit_requested _ c.emit_if.ensures (λ at. refl)
