@@ -102,27 +102,19 @@ fn enqueue(
     ensures { Anew status (lent_frame f.entry) (opened_of (parts words.old halves.old bytes.old clock.old)) list.old delivery.old outbound.old queue.old (ended_of (opened_of (parts words.new halves.new bytes.new clock.new)) result) list.new delivery.new outbound.new queue.new }
 {
     let c = link_codes::clock_in(halves, clock);
-    if link_queue::holds(words, f.number) {
-        let step = Step {
-            turn: t,
-            events: events::request(c, list, 0),
-            at: 0,
-        };
-        return link_draining::carry(
-            words, halves, bytes, clock, step, 0, status, list, delivery, outbound, queue,
-        );
+    if !link_queue::holds(words, f.number) {
+        let count = words[parts::QUEUED];
+        if words[parts::POLICY_MESSAGES] < count + 1 {
+            let x = Refusal::QueueCount;
+            return link_draining::fail(words, halves, bytes, clock, list, 0, queue, x);
+        }
+        let end = link_queue::start(halves, count as usize);
+        if words[parts::POLICY_BYTES] < (end + f.body.len()) as u64 {
+            let x = Refusal::QueueBytes;
+            return link_draining::fail(words, halves, bytes, clock, list, 0, queue, x);
+        }
+        link_queue::insert(words, halves, bytes, queue, end, f.number, f.kind, f.body);
     }
-    let count = words[parts::QUEUED];
-    if words[parts::POLICY_MESSAGES] < count + 1 {
-        let x = Refusal::QueueCount;
-        return link_draining::fail(words, halves, bytes, clock, list, 0, queue, x);
-    }
-    let end = link_queue::start(halves, count as usize);
-    if words[parts::POLICY_BYTES] < (end + f.body.len()) as u64 {
-        let x = Refusal::QueueBytes;
-        return link_draining::fail(words, halves, bytes, clock, list, 0, queue, x);
-    }
-    link_queue::insert(words, halves, bytes, queue, end, f.number, f.kind, f.body);
     let step = Step {
         turn: t,
         events: events::request(c, list, 0),

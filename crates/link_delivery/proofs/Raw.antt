@@ -8,19 +8,18 @@ use Rattle.rules.specs.declared.ReceiveMode.{ReceiveMode}
 use mathlib.Core.List.{List, [], ◌∷◌}
 use Prim.Native.Nat.{ℕ, ◌+◌, ◌*◌, ◌≤◌, ◌<◌}
 use native.Mathlib.Omega.{arith}
-use lib.ListN.{length, take, drop}
+use lib.ListN.{length}
 use Rattle.stores.specs.Placed.{placed}
 use Rattle.rules.specs.declared.HostStatus.{HostStatus}
 use Rattle.rules.specs.declared.ReceiveMode.TheVariants.{Raw}
 use Rattle.rules.specs.Lists.{Bytes}
 use Rattle.rules.specs.State as R
-use Rattle.events.specs.Written.{Listed, asked, Books, books}
+use Rattle.events.specs.Written.{Listed, asked, books}
 use Rattle.events.proofs.Laws.{request_yes, request_no}
 use Rattle.delivery.specs.declared.Turn.{Turn}
 use Rattle.delivery.specs.Turns.{frame_of, step_at, Delivered}
-use Rattle.delivery.specs.Acts.{Available, Deliverable, HandedOver}
+use Rattle.delivery.specs.Acts.{Available, Deliverable}
 use Rattle.delivery.proofs.Written.{handed_over}
-use Rattle.delivery.proofs.Queues.{part-size}
 use Rattle.delivery.proofs.Steps.{raw_is, did_message, did_consumed, deliver-goes}
 use Rattle.delivery.proofs.Tests.{listening, available_in}
 use Rattle.link_delivery.specs.Drains.{reached, HandedRaw}
@@ -35,47 +34,35 @@ raw_deliverable n k t e b s fs ws u = ap (λ (m : ReceiveMode). not (is_proposal
 
 -- ---- what is written
 
-module _ (number generation persisted : ℕ) (l : List ℕ) (n : ℕ) (d : Bytes) (at : ℕ) (q : Bytes) (start len : ℕ)
-    (reach : start + len ≤ length q) (room : 4 * n + 8 ≤ length l) (bytes : at + len ≤ length d)
-    {body : Bytes} (is : body ≡ take len (drop start q)) {l₁ : List ℕ} {d₁ : Bytes}
-    (e : l₁ ≡ placed l (4 * n) (2 ∷ number ∷ at ∷ len ∷ [])) (f : d₁ ≡ placed d at body) where
-  abbrev b : Books
-  b = books l n d at
-
-  size : length body ≡ len
-  size = ap length is ∙ part-size q start len reach
-
-  over : HandedOver number body l n d at l₁ d₁
-  over = handed_over number body l n d at l₁ d₁ (e ∙ ap (λ (k : ℕ). placed l (4 * n) (2 ∷ number ∷ at ∷ k ∷ [])) (sym size)) f
-
+module _ (number generation persisted : ℕ) (l : List ℕ) (n : ℕ) (d : Bytes) (at : ℕ) {body : Bytes}
+    (room : 4 * n + 8 ≤ length l) (bytes : at + length body ≤ length d) {l₁ : List ℕ} {d₁ : Bytes}
+    (e : l₁ ≡ placed l (4 * n) (2 ∷ number ∷ at ∷ length body ∷ [])) (f : d₁ ≡ placed d at body) where
   -- with what is listed after it
   raw : (t : Turn) (kind : ℕ) → t.mode ≡ Raw → (l₂ : List ℕ) (k : ℕ) → Listed (asked (reached t number (t.clock.generation + 1)).clock) l₁ (n + 1) l₂ k
-      → Delivered (frame_of number kind body) t b (Ok (step_at (reached t number (t.clock.generation + 1)) k (at + length body))) l₂ d₁
+      → Delivered (frame_of number kind body) t (books l n d at) (Ok (step_at (reached t number (t.clock.generation + 1)) k (at + length body))) l₂ d₁
   raw t kind m l₂ k h =
       let g : R.Frame = frame_of number kind body in
-      deliver-goes g t b l₁ d₁ (record { listed = omega arith; filled = omega arith }) (step_at t (n + 1) (at + length body))
-      (did_consumed g m (λ st. raw_is g st) (omega arith) (did_message t b g over refl)) h refl
+      deliver-goes g t (books l n d at) l₁ d₁ (record { listed = omega arith; filled = omega arith }) (step_at t (n + 1) (at + length body))
+      (did_consumed g m (λ st. raw_is g st) (omega arith) (did_message t (books l n d at) g (handed_over number body l n d at l₁ d₁ e f) refl)) h refl
 
-  -- the same, by the generation that it comes to and where the body comes from
+  -- the same, by the generation that it comes to
   handed : {l₂ : List ℕ} {k : ℕ} → ((t : Turn) → t.clock.generation + 1 ≡ generation → t.clock.persisted ≡ persisted
       → Listed (asked (reached t number (t.clock.generation + 1)).clock) l₁ (n + 1) l₂ k)
-      → HandedRaw number generation persisted len (take len (drop start q)) (books l n d at) k l₂ d₁
+      → HandedRaw number generation persisted body (books l n d at) k l₂ d₁
   handed {l₂} {k} h =
       record {
         delivered = λ t kind m eg ep.
-            subst (λ (x : Bytes). Delivered (frame_of number kind x) t b (Ok (step_at (reached t number generation) k (at + len))) l₂ d₁) is
-            (subst (λ (z : ℕ). Delivered (frame_of number kind body) t b (Ok (step_at (reached t number generation) k (at + z))) l₂ d₁) size
-            (subst (λ (g : ℕ). Delivered (frame_of number kind body) t b (Ok (step_at (reached t number g) k (at + length body))) l₂ d₁) eg
-            (raw t kind m l₂ k (h t eg ep))));
+            subst (λ (g : ℕ). Delivered (frame_of number kind body) t (books l n d at) (Ok (step_at (reached t number g) k (at + length body))) l₂ d₁) eg
+            (raw t kind m l₂ k (h t eg ep));
       }
 
   -- a commit is requested, or not
   pub handed-asked : persisted < generation → {l₂ : List ℕ} → l₂ ≡ placed l₁ (4 * (n + 1)) (1 ∷ 0 ∷ 0 ∷ 0 ∷ [])
-      → HandedRaw number generation persisted len (take len (drop start q)) (books l n d at) (n + 2) l₂ d₁
+      → HandedRaw number generation persisted body (books l n d at) (n + 2) l₂ d₁
   handed-asked h {l₂} e₂ =
       let z : n + 1 + 1 ≡ n + 2 = omega arith in
-      subst (λ (k : ℕ). HandedRaw number generation persisted len (take len (drop start q)) (books l n d at) k l₂ d₁) z
+      subst (λ (k : ℕ). HandedRaw number generation persisted body (books l n d at) k l₂ d₁) z
       (handed (λ t eg ep. request_yes (reached t number (t.clock.generation + 1)).clock l₁ l₂ (n + 1) (omega (arith, eg, ep)) e₂))
 
-  pub handed_plain : generation ≤ persisted → HandedRaw number generation persisted len (take len (drop start q)) (books l n d at) (n + 1) l₁ d₁
+  pub handed_plain : generation ≤ persisted → HandedRaw number generation persisted body (books l n d at) (n + 1) l₁ d₁
   handed_plain h = handed (λ t eg ep. request_no (reached t number (t.clock.generation + 1)).clock l₁ (n + 1) (omega (arith, eg, ep)))

@@ -1,5 +1,5 @@
 -- The drain's loop in Raw mode. Assumes nothing.
-use mathlib.Core.Path.{◌≡◌, refl, sym, subst}
+use mathlib.Core.Path.{◌≡◌, refl, sym, ap, ◌∙◌, subst}
 use mathlib.Core.Bool.{true, false}
 use mathlib.Core.List.{List}
 use Prim.Native.Nat.{ℕ, ◌+◌, ◌-◌, ◌*◌, ◌≤◌, ◌<◌}
@@ -13,6 +13,7 @@ use Rattle.delivery.specs.declared.Turn.{Turn}
 use Rattle.delivery.specs.Turns.{step_at, Drains}
 use Rattle.delivery.specs.Acts.{drained_by}
 use Rattle.delivery.proofs.Drains.{next_small}
+use Rattle.delivery.proofs.Queues.{part-size}
 use Rattle.parts.specs.Parts.{at, queue_in, waiting_in}
 use Rattle.link_queue.specs.Steps.{bodies}
 use Rattle.link_delivery.specs.declared.DrainEnd.{DrainEnd}
@@ -67,16 +68,21 @@ module _ {t₀ : Turn} {w₀ h c : List ℕ} {i₀ : ℕ} {q : Bytes} {b₀ : Bo
         let z = ready_in y l e in
         record { slow = z.slow; short = on_in y l e; reaches = reaches_in y l e; room = z.room; bytes = z.bytes }
 
-    pub raw_more : {len : ℕ} → len ≡ at h (512 + i) → at w (16 + i) ≡ r + 1 → {p n' : ℕ} {l' : List ℕ} {d' : Bytes} → t₀.clock.persisted ≡ p
-        → HandedRaw (at w (16 + i)) (g + 1) p len (take len (drop a q)) b n' l' d' → length l' ≡ length b.list → length d' ≡ length b.delivery
+    pub body_long : {len : ℕ} → len ≡ at h (512 + i) → {y : Bytes} → y ≡ take len (drop a q) → length y ≡ len
+    body_long {len} e ey = ap length ey ∙ part-size q a len (raw_room e).reaches
+
+    pub raw_more : {len : ℕ} → len ≡ at h (512 + i) → at w (16 + i) ≡ r + 1 → {p n' : ℕ} {x : Bytes} {l' : List ℕ} {d' : Bytes} → t₀.clock.persisted ≡ p
+        → x ≡ take len (drop a q) → HandedRaw (at w (16 + i)) (g + 1) p x b n' l' d' → length l' ≡ length b.list → length d' ≡ length b.delivery
         → RawTurns t₀ w₀ h c i₀ q b₀ (set w (272 + k) (at w (16 + i))) (g + 1) (at w (16 + i)) (k + 1) (i + 1) (a + len) (books l' n' d' (b.at + len))
-    raw_more {len} e is {p} {n'} {l'} {d'} ep x ll ld =
+    raw_more {len} e is {p} {n'} {x} {l'} {d'} ep ex o ll ld =
         let t : Turn = reached t₀ r g in
         let y : (status : HostStatus) → status.available ≡ true
         → TurnsIn status t₀ w₀ h c i₀ q b₀ (reached t₀ (at w (16 + i)) (g + 1)) (set w (272 + k) (at w (16 + i))) (k + 1) (i + 1) (a + len) (books l' n' d' (b.at + len)) =
         λ s on.
-        more_in (v.turns s on) l is e (raw_available s t on v.mode) (raw_deliverable (at w (16 + i)) (at c (512 + i)) t v.mode) refl
-        (x.delivered t (at c (512 + i)) v.mode refl ep) ll ld in
+        subst (λ (m : ℕ). TurnsIn s t₀ w₀ h c i₀ q b₀ (reached t₀ (at w (16 + i)) (g + 1)) (set w (272 + k) (at w (16 + i))) (k + 1) (i + 1) (a + len) (books l' n' d' (b.at + m)))
+        (body_long e ex)
+        (more_in (v.turns s on) l is e (raw_available s t on v.mode) (raw_deliverable (at w (16 + i)) (at c (512 + i)) t v.mode) ex
+        (o.delivered t (at c (512 + i)) v.mode refl ep) ll ld) in
         let z = y some_host refl in
         record {
           mode = v.mode;

@@ -1,5 +1,5 @@
 -- The drain of the queue in place: the acks that wait grow in the words of a session. Assumes nothing.
-use Rattle.std.specs.Prelude.{ℕ, ◌+◌, ◌≡◌, true, List, set, Option, Ok}
+use Rattle.std.specs.Prelude.{ℕ, ◌+◌, ◌≡◌, true, List, length, set, Option, Ok}
 use Rattle.rules.specs.declared.HostStatus.{HostStatus}
 use Rattle.rules.specs.declared.ReceiveMode.TheVariants.{Raw}
 use Rattle.rules.specs.Lists.{Bytes}
@@ -52,10 +52,10 @@ reached t n g =
       dropped = t.dropped;
     }
 
--- a message of len bytes is delivered, whatever the turn is that has this mode, this generation after it, and this persisted one
-pub record HandedRaw (number generation persisted len : ℕ) (body : Bytes) (b : Books) (n' : ℕ) (l' : List ℕ) (d' : Bytes) : Type 0 where
+-- a message is delivered, whatever the turn is that has this mode, this generation after it, and this persisted one
+pub record HandedRaw (number generation persisted : ℕ) (body : Bytes) (b : Books) (n' : ℕ) (l' : List ℕ) (d' : Bytes) : Type 0 where
   pub delivered : (t : Turn) (kind : ℕ) → t.mode ≡ Raw → t.clock.generation + 1 ≡ generation → t.clock.persisted ≡ persisted
-      → Delivered (frame_of number kind body) t b (Ok (step_at (reached t number generation) n' (b.at + len))) l' d'
+      → Delivered (frame_of number kind body) t b (Ok (step_at (reached t number generation) n' (b.at + length body))) l' d'
 
 -- what is asked for a drain in Raw mode
 pub record DrainingRaw (status : HostStatus) (t : Turn) (w h b : List ℕ) (i : ℕ) (q : Bytes) (k : Books) : Type 0 where

@@ -1,7 +1,7 @@
 // The drain of the queue on the parts of a session: frames are read, and acks that wait are written, where they lie.
 #![tactic(auto)]
 
-ghost use Rattle.std.specs.Prelude.{◌≡◌, ◌+◌, ◌*◌, ◌≤◌, length, take, drop};
+ghost use Rattle.std.specs.Prelude.{◌≡◌, ◌+◌, ◌*◌, ◌≤◌, length};
 ghost use Rattle.events.specs.Written.{books};
 ghost use Rattle.delivery.specs.Turns.{Draining};
 ghost use Rattle.parts.specs.Parts.{queue_in, waiting_in};
@@ -90,16 +90,14 @@ fn hand_over(
     delivery: &mut [u8],
     at: usize,
     number: u64,
-    store: &[u8],
-    start: usize,
-    len: usize,
+    body: &[u8],
     generation: u32,
     persisted: u32,
 ) -> usize
-    requires { (start + len ≤ length store.now) × (4 * n + 8 ≤ length list.old) × (at + len ≤ length delivery.old) }
-    ensures { HandedRaw number generation persisted len (take len (drop start store.now)) (books list.old n delivery.old at) result list.new delivery.new }
+    requires { (4 * n + 8 ≤ length list.old) × (at + length body.now ≤ length delivery.old) }
+    ensures { HandedRaw number generation persisted body.now (books list.old n delivery.old at) result list.new delivery.new }
 {
-    let body = stores::part(store, start, len);
+    let len = body.len();
     stores::copy_in(delivery, at, body);
     events::emit(
         list,
@@ -147,9 +145,10 @@ fn drain_raw(
             break;
         }
         let len = halves[parts::QUEUED_LENS + i] as usize;
+        let body = stores::part(store, start, len);
         generation += 1;
         events = hand_over(
-            list, events, delivery, at, number, store, start, len, generation, persisted,
+            list, events, delivery, at, number, body, generation, persisted,
         );
         words[parts::WAITING_NUMBERS + k] = number;
         remote = number;

@@ -2,7 +2,7 @@ use mathlib.Core.Path.{refl}
 use native.Mathlib.Omega.{arith}
 use Rattle.delivery.proofs.Drains.{out_empty}
 use Rattle.link_delivery.proofs.Turns.{summing, later_in}
-use Rattle.link_delivery.proofs.RawTurns.{raw_none, raw_next, raw_room, raw_more, raw_ends}
+use Rattle.link_delivery.proofs.RawTurns.{raw_none, raw_next, raw_room, body_long, raw_more, raw_ends}
 use Rattle.link_delivery.proofs.drain_raw.Goals as goal
 use Rattle.link_delivery.proofs.drain_raw.Goals.{else-loop-i-test, then-loop-i-test+then-number-remote}
 
@@ -18,10 +18,17 @@ overflow_add-remote c = omega (arith, raw_next c.loop-i.invariant.raw c.loop-i-t
 pub overflow_add-generation : goal.overflow_add-generation
 overflow_add-generation c = omega (arith, (raw_room c.loop-i.invariant.raw c.loop-i-test.true refl).slow)
 
+pub part-body-requires : goal.part-body-requires
+part-body-requires c =
+    let r = raw_room c.loop-i.invariant.raw c.loop-i-test.true refl in
+    (omega (arith, r.reaches), omega (arith, r.reaches))
+
 pub hand_over-events-requires : goal.hand_over-events-requires
 hand_over-events-requires c =
-    let r = raw_room c.loop-i.invariant.raw c.loop-i-test.true refl in
-    (r.reaches, r.room, r.bytes)
+    let v = c.loop-i.invariant.raw in
+    let l = c.loop-i-test.true in
+    let r = raw_room v l refl in
+    (r.room, omega (arith, r.bytes, body_long v l refl c.part-body.ensures))
 
 pub overflow_add-at : goal.overflow_add-at
 overflow_add-at c =
@@ -35,7 +42,7 @@ pub loop-i-preserved : goal.loop-i-preserved
 loop-i-preserved c =
     let g = c.hand_over-events in
     record {
-      raw = raw_more c.loop-i.invariant.raw c.loop-i-test.true refl c.if-number-remote.false refl g.ensures g.auto.list g.auto.delivery;
+      raw = raw_more c.loop-i.invariant.raw c.loop-i-test.true refl c.if-number-remote.false refl c.part-body.ensures g.ensures g.auto.list g.auto.delivery;
       whole = c.loop-i.invariant.whole;
     }
 
