@@ -1,6 +1,6 @@
 -- What is asked of numbers from an index of the words on, and of a list that rises. Assumes nothing.
 use Prim.Native.Nat.{ℕ, zero, suc, ◌+◌, ◌-◌, ◌≤◌, ◌<◌}
-use mathlib.Core.Path.{◌≡◌, refl, sym, ap, ◌∙◌}
+use mathlib.Core.Path.{◌≡◌, refl, sym, ap, ◌∙◌, subst}
 use mathlib.Core.Bool.{Bool, true, false, ◌&&◌}
 use mathlib.Core.List.{List, [], ◌∷◌}
 use native.Mathlib.Omega.{arith}
@@ -106,15 +106,24 @@ module _ (from : ℕ) (w : List ℕ) (n : ℕ) (few : n ≤ 512) (room : from + 
       let h : 0 < n = pos n e in
       ap (λ (x : ℕ). leb x limit) (sym (found (n - 1) (omega arith))) ∙ last_decides limit (firsts from n w) (n - 1) up (omega (arith, size))
 
-  pub seat_in : (x j : ℕ) → j ≤ n → (0 < j → at w (from + (j - 1)) < x) → (j < n → x ≤ at w (from + j)) → j ≡ seat_of x (firsts from n w)
-  seat_in x j h a b =
-      seat_between x (firsts from n w) j up (omega (arith, size))
-      (λ i e.
-      let ei : i ≡ j - 1 = omega arith in
-      let g : at w (from + (j - 1)) < x = a (omega arith) in
-      let f : at (firsts from n w) i ≡ at w (from + (j - 1)) = found i (omega arith) ∙ ap (λ (k : ℕ). at w (from + k)) ei in
-      omega arith)
-      (λ k. let f : at (firsts from n w) j ≡ at w (from + j) = found j (omega (arith, size)) in omega (arith, b (omega (arith, size))))
+-- the same of the run of words that the code lends
+module _ (from n : ℕ) (w : List ℕ) (few : n ≤ 512) (up : ascending (firsts from n w) ≡ true) (x : ℕ) where
+  abbrev pub run : List ℕ
+  run = take (from + n - from) (drop from w)
+
+  run-seat : (j : ℕ) → j ≤ length run → ((i : ℕ) → j ≡ suc i → get_or run i 0 < x) → (j < length run → x ≤ get_or run j 0) → j ≡ seat_of x (firsts from n w)
+  run-seat j h a b =
+      let e : run ≡ firsts from n w = run_is from n w few in
+      seat_between x run j (ap ascending e ∙ up) h a b ∙ ap (seat_of x) e
+
+  pub seat_after : (j : ℕ) → j < length run → get_or run j 0 < x → ((k : ℕ) → j + 1 ≤ k → k < length run → x ≤ get_or run k 0) → j + 1 ≡ seat_of x (firsts from n w)
+  seat_after j h below above =
+      run-seat (j + 1) (omega arith)
+      (λ i e. let s : j ≡ i = omega arith in subst (λ (k : ℕ). get_or run k 0 < x) s below)
+      (λ l. above (j + 1) (omega arith) l)
+
+  pub seat_first : ((k : ℕ) → k < length run → x ≤ get_or run k 0) → 0 ≡ seat_of x (firsts from n w)
+  seat_first above = run-seat 0 (omega arith) (λ i e. absurd (omega arith)) (λ l. above 0 l)
 
 pub most_none : (from : ℕ) (w : List ℕ) (n limit : ℕ) → n ≡ 0 → true ≡ all (at_most limit) (firsts from n w)
 unfolding all

@@ -55,12 +55,10 @@ fn seat(words: &Words, from: usize, count: usize, n: u64) -> usize
     requires { Lies from count words.now × (ascending (firsts from count words.now) ≡ true) }
     ensures { result ≡ seat_of n (firsts from count words.now) }
 {
-    for j in (0..count).rev() {
-        if words[from + j] < n {
-            return j + 1;
-        }
+    match words[from..from + count].iter().rposition(|&x| x < n) {
+        Some(j) => j + 1,
+        None => 0,
     }
-    0
 }
 
 // With the number n at index i, and those from there on one index higher.

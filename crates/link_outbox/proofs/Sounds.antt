@@ -4,15 +4,15 @@ use Rattle.std.specs.Prelude.{if◌then◌else◌}
 use mathlib.Core.Path.{◌≡◌, refl, sym, ap, ◌∙◌}
 use mathlib.Core.Bool.{Bool, true, false}
 use mathlib.Core.List.{List, [], ◌∷◌}
-use Prim.Native.Nat.{ℕ, zero, suc, ◌+◌, ◌-◌, ◌≤◌, ◌<◌}
+use Prim.Native.Nat.{ℕ, zero, suc, ◌+◌, ◌-◌, ◌*◌, ◌^◌, ◌≤◌, ◌<◌}
 use native.Mathlib.Omega.{arith}
 use native.Mathlib.Nat.{eq-or-lt_of_le}
 use mathlib.Core.Logic.{⊎_elim}
-use lib.ListN.{length, take, get_or}
+use lib.ListN.{length, take, drop, get_or}
 use lib.Seq.{slice, get_or-take, length-take-le}
 use lib.Dec.{ltb, leb}
 use borrow.Author.Tests.{le-leb, lt-leb, lt-ltb, ltb-false, ltb-true}
-use Rattle.rules.specs.Lists.{all, total, rising}
+use Rattle.rules.specs.Lists.{all, total, rising, itself}
 use Rattle.rules.proofs.Lists.{and_left, and_right, and_both}
 use Rattle.stores.proofs.Packs.{slice-none}
 use Rattle.outbox.specs.declared.Unacked.{Unacked}
@@ -24,7 +24,7 @@ use Rattle.outbox.proofs.Listings.{rises-above}
 use Rattle.outbox.proofs.View.{SoundU, sound_facts, facts_sound}
 use Rattle.parts.specs.Seats.{seats}
 use Rattle.parts.specs.Parts.{at, unacked_at, outbox_in}
-use Rattle.parts.proofs.Seats.{length-seats, get_d_seats, take-seats, slice-seats}
+use Rattle.parts.proofs.Seats.{length-seats, get_d_seats, take-seats, slice-seats, run_is, total-map}
 use Rattle.link_outbox.specs.Tests.{fall, falls, Steps, Bounded}
 
 -- ---- numbers that rise
@@ -210,6 +210,23 @@ module _ (w h b : List ℕ) where
 
 pub take-total : (f : ℕ → Unacked) (n : ℕ) → n ≤ 256 → total len_u (take n (seats 256 f)) ≡ total len_u (seats n f)
 take-total f n h = ap (total len_u) (take-seats n 256 f h)
+
+-- whatever they are
+total-most : (n : ℕ) (f : ℕ → Unacked) → ((i : ℕ) → (f i).len < 4294967296) → total len_u (seats n f) ≤ 4294967295 * n
+unfolding total seats
+total-most zero f e = omega arith
+total-most (suc n) f e = omega (arith, e 0, total-most n (λ i. f (suc i)) (λ i. e (suc i)))
+
+-- by the lengths as the code lends them
+module _ (h : List ℕ) (n : ℕ) (few : n ≤ 256) (room : 512 ≤ length h) where
+  abbrev pub lens : List ℕ
+  lens = take (256 + n - 256) (drop 256 h)
+
+  pub run_lens : (b : List ℕ) → total itself lens ≡ total len_u (seats n (unacked_at h b))
+  run_lens b = ap (total itself) (run_is len_u 256 n (unacked_at h b) h (omega arith) (λ j l. refl)) ∙ total-map len_u itself (seats n (unacked_at h b))
+
+  pub lens_most : ((i : ℕ) → at h i < 4294967296) → total itself lens < 2 ^ 64
+  lens_most e = omega (arith, run_lens [], total-most n (unacked_at h []) (λ i. e (256 + i)))
 
 -- by the records in use
 pub ends_at : (w h b : List ℕ) → at w 1 ≤ 256 → total len_u (seats (at w 1) (unacked_at h b)) ≡ end_u (outbox_in w h b)

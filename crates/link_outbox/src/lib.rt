@@ -63,11 +63,10 @@ fn lens_of(halves: &Halves, count: usize) -> u64
     requires { count ≤ 256 }
     ensures { (b : List ℕ) → result ≡ total len_u (take count (seats 256 (unacked_at halves.now b))) }
 {
-    let mut sum: u64 = 0;
-    for i in 0..count {
-        sum += u64::from(halves[parts::UNACKED_LENS + i]);
-    }
-    sum
+    halves[parts::UNACKED_LENS..parts::UNACKED_LENS + count]
+        .iter()
+        .map(|&len| u64::from(len))
+        .sum()
 }
 
 // Tests stand one a line, each with its return, where names are bound or calls are made between them: `&&` over all of them would read no plainer.
@@ -111,10 +110,9 @@ pub fn used(halves: &Halves, count: usize) -> usize
     requires { Bounded halves.now count }
     ensures { (b : List ℕ) → result ≡ total len_u (seats count (unacked_at halves.now b)) }
 {
-    let mut sum: u32 = 0;
-    for i in 0..count {
-        sum += halves[parts::UNACKED_LENS + i];
-    }
+    let sum: u32 = halves[parts::UNACKED_LENS..parts::UNACKED_LENS + count]
+        .iter()
+        .sum();
     sum as usize
 }
 

@@ -83,4 +83,4 @@ module _ {n : ℕ} {w : List ℕ} (few : at w 4 ≤ 256) (g : Below n w) where
       ∙ none-seats (is-queued n) (at w 4) (queued_at w h b) (λ i l. ne_eqb (at w (16 + i)) n (λ e. omega (arith, g.each i l, e))))
 
   pub leads_below : (h b : List ℕ) → Leads n (queue_in w h b) (at w 4)
-  leads_below h b = leads_all n w (at w 4) few (omega arith) (λ j l. omega (arith, g.each j l)) (omega arith) h b
+  leads_below h b = leads_all n w few (λ j l. omega (arith, g.each j l)) h b

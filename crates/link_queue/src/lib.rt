@@ -19,10 +19,9 @@ pub fn start(halves: &Halves, k: usize) -> usize
     requires { Summing halves.now k }
     ensures { result ≡ bodies halves.now k }
 {
-    let mut sum: u32 = 0;
-    for i in 0..k {
-        sum += halves[parts::QUEUED_LENS + i];
-    }
+    let sum: u32 = halves[parts::QUEUED_LENS..parts::QUEUED_LENS + k]
+        .iter()
+        .sum();
     sum as usize
 }
 
@@ -37,17 +36,17 @@ fn above(words: &Words, number: u64) -> bool
     n == 0 || words[parts::QUEUED_NUMBERS - 1 + n] < number
 }
 
-// Whether a frame of this number is queued. All are looked at, which is quicker than to stop.
+// Whether a frame of this number is queued. All are looked at, with no exit, so that LLVM compares several at once.
 pub fn find(words: &Words, number: u64) -> bool
     requires { at words.now 4 ≤ 256 }
     ensures { (h b : List ℕ) (o : Bytes) → result ≡ any (is_frame number) (frames_of (queue_in words.now h b) o) }
 {
     let count = words[parts::QUEUED] as usize;
-    let mut sum: u64 = 0;
-    for i in 0..count {
-        sum += u64::from(words[parts::QUEUED_NUMBERS + i] == number);
-    }
-    0 < sum
+    let found: u64 = words[parts::QUEUED_NUMBERS..parts::QUEUED_NUMBERS + count]
+        .iter()
+        .map(|&x| u64::from(x == number))
+        .sum();
+    0 < found
 }
 
 // The same, of frames that rise.
@@ -58,18 +57,16 @@ pub fn holds(words: &Words, number: u64) -> bool
     !above(words, number) && find(words, number)
 }
 
-// How many frames at the front have a number up to this one.
+// How many frames at the front have a number up to this one. No `partition_point`: it promises of an ordered list alone, and this one asks for no order.
 pub fn up_to(words: &Words, number: u64) -> usize
     requires { at words.now 4 ≤ 256 }
     ensures { (h b : List ℕ) → Leads number (queue_in words.now h b) result }
 {
     let count = words[parts::QUEUED] as usize;
-    for i in 0..count {
-        if number < words[parts::QUEUED_NUMBERS + i] {
-            return i;
-        }
-    }
-    count
+    words[parts::QUEUED_NUMBERS..parts::QUEUED_NUMBERS + count]
+        .iter()
+        .take_while(|&&x| x <= number)
+        .count()
 }
 
 // ---- put in

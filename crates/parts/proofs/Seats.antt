@@ -1,11 +1,15 @@
 -- Lists by what stands at each index. Assumes nothing.
-use Prim.Native.Nat.{ℕ, zero, suc, ◌+◌, ◌≤◌, ◌<◌}
+use Rattle.std.specs.Prelude.{if◌then◌else◌}
+use Prim.Native.Nat.{ℕ, zero, suc, ◌+◌, ◌-◌, ◌≤◌, ◌<◌}
 use mathlib.Core.Path.{◌≡◌, refl, sym, ap, ◌∙◌}
+use mathlib.Core.Bool.{Bool}
 use mathlib.Core.List.{List, [], ◌∷◌, ◌++◌, map}
 use native.Mathlib.Numerals.{add-one}
 use native.Mathlib.Omega.{arith}
-use lib.ListN.{length, take, get_or}
-use lib.Seq.{slice, slice-cons, ext_get_or}
+use lib.ListN.{length, take, drop, get_or, length-drop}
+use lib.Seq.{slice, slice-cons, ext_get_or, get_or-take, get_or-drop, length-take-le}
+use Rattle.rules.specs.Lists.{total}
+use Rattle.stores.specs.Fronts.{front}
 use Rattle.parts.specs.Seats.{seats}
 
 module _ {A : Type 0} where
@@ -56,3 +60,24 @@ module _ {A B : Type 0} where
   unfolding seats
   map-seats g zero f = refl
   map-seats g (suc n) f = ap (λ (l : List B). g (f 0) ∷ l) (map-seats g n (λ i. f (suc i)))
+
+-- ---- a run of k numbers from index i on, as the code lends it, of records that stand there
+
+module _ {A : Type 0} (size : A → ℕ) where
+  pub run_is : (i k : ℕ) (f : ℕ → A) (l : List ℕ) → i + k ≤ length l → ((j : ℕ) → j < k → size (f j) ≡ get_or l (i + j) 0) → take (i + k - i) (drop i l) ≡ map size (seats k f)
+  run_is i k f l room is =
+      let e : i + k - i ≡ k = omega arith in
+      let n : length (take k (drop i l)) ≡ k = length-take-le k (drop i l) (omega (arith, length-drop i l)) in
+      ap (λ (m : ℕ). take m (drop i l)) e
+      ∙ seats_of k (λ j. size (f j)) (take k (drop i l)) 0 n (λ j h. get_or-take k (drop i l) j 0 h ∙ get_or-drop i l j 0 ∙ sym (is j h))
+      ∙ sym (map-seats size k f)
+
+  pub total-map : (g : ℕ → ℕ) (xs : List A) → total g (map size xs) ≡ total (λ x. g (size x)) xs
+  unfolding total
+  total-map g [] = refl
+  total-map g (x ∷ xs) = ap (λ (k : ℕ). g (size x) + k) (total-map g xs)
+
+  pub front-map : (p : ℕ → Bool) (xs : List A) → front p (map size xs) ≡ front (λ x. p (size x)) xs
+  unfolding front
+  front-map p [] = refl
+  front-map p (x ∷ xs) = ap (λ (k : ℕ). if p (size x) then suc k else 0) (front-map p xs)

@@ -1,13 +1,23 @@
-use native.Mathlib.Omega.{arith}
-use Rattle.link_numbers.proofs.Asked.{seat_in}
+use Prim.Native.Nat.{ℕ, ◌+◌, ◌≤◌, ◌<◌}
+use lib.ListN.{length, get_or}
+use Rattle.std.proofs.Common.{rules}
+use Rattle.link_numbers.proofs.Asked.{run, seat_after, seat_first}
 use Rattle.link_numbers.proofs.seat.Goals as goal
 
-pub returns-then-words-from : goal.returns-then-words-from
-returns-then-words-from c =
+pub returns-in-Some : goal.returns-in-Some
+returns-in-Some c =
     let a = c.args in
-    omega (arith, seat_in a.from a.words.now a.count (omega arith) (omega arith) c.requires.1 a.n c.loop-j.j (omega arith) (λ h. c.if-words-from.true) c.loop-j.invariant.2)
+    let few = c.requires.0.few in
+    let ns = run a.from a.count a.words.now few c.requires.1 a.n in
+    let inside : c.in-Some.j < length ns = search rules in
+    let below : get_or ns c.in-Some.j 0 < a.n = search rules in
+    let above : (k : ℕ) → c.in-Some.j + 1 ≤ k → k < length ns → a.n ≤ get_or ns k 0 = search rules in
+    seat_after a.from a.count a.words.now few c.requires.1 a.n c.in-Some.j inside below above
 
-pub returns : goal.returns
-returns c =
+pub returns-in-None : goal.returns-in-None
+returns-in-None c =
     let a = c.args in
-    omega (arith, seat_in a.from a.words.now a.count (omega arith) (omega arith) c.requires.1 a.n c.loop-j.j (omega arith) (λ h. absurd (omega arith)) c.loop-j.invariant.2)
+    let few = c.requires.0.few in
+    let ns = run a.from a.count a.words.now few c.requires.1 a.n in
+    let above : (k : ℕ) → k < length ns → a.n ≤ get_or ns k 0 = search rules in
+    seat_first a.from a.count a.words.now few c.requires.1 a.n above

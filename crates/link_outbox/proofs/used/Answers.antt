@@ -1,27 +1,29 @@
-use mathlib.Core.List.{[]}
+use Prim.Native.Nat.{◌≤◌, ◌<◌, ◌^◌}
 use native.Mathlib.Omega.{arith}
-use Rattle.outbox.specs.View.{len_u}
-use Rattle.parts.specs.Parts.{unacked_at}
-use Rattle.link_outbox.proofs.Sounds.{total-seats, total-end, take-total}
+use mathlib.Core.Path.{◌∙◌}
+use mathlib.Core.List.{[]}
+use lib.ListN.{length}
+use Rattle.std.specs.List.{sum}
+use Rattle.std.proofs.lemmas.Iterator.{YieldsList-from_slice}
+use Rattle.std.proofs.lemmas.Iterator.Consumers.{sum_from_yields_List, fits_from_yields_list}
+use Rattle.rules.specs.Lists.{itself}
+use Rattle.stores.proofs.Words.{total-sum}
+use Rattle.link_outbox.proofs.Sounds.{lens, run_lens}
 use Rattle.link_outbox.proofs.used.Goals as goal
 
-pub loop-i-init : goal.loop-i-init
-loop-i-init c = (c.requires, omega arith, λ b. omega (arith, take-total (unacked_at c.args.halves.now b) c.args.count c.requires.few))
-
-pub overflow_add-sum-in-loop-i : goal.overflow_add-sum-in-loop-i
-overflow_add-sum-in-loop-i c =
-    let l = c.loop-i in
-    let a = c.args in
-    omega (arith, l.invariant.2 [], l.invariant.0.small [], total-seats (unacked_at a.halves.now []) l.i a.count len_u c.loop-i-test.true l.invariant.0.few)
-
-pub loop-i-preserved : goal.loop-i-preserved
-loop-i-preserved c =
-    let l = c.loop-i in
-    let a = c.args in (
-      l.invariant.0,
-      omega arith,
-      λ b. omega (arith, l.invariant.2 b, total-seats (unacked_at a.halves.now b) l.i a.count len_u c.loop-i-test.true l.invariant.0.few),
-    )
+pub sum-sum-requires-clause-fits : goal.sum-sum-requires-clause-fits
+sum-sum-requires-clause-fits c =
+    let h = c.args.halves.now in
+    let n = c.args.count in
+    let room : 512 ≤ length h = omega arith in
+    let ls = lens h n c.requires.few room in
+    let fits : sum ls < 2 ^ 32 = omega (arith, c.requires.small [], total-sum itself ls, run_lens h n c.requires.few room []) in
+    fits_from_yields_list c.iter.result _ (YieldsList-from_slice ls (cc)) fits
 
 pub returns : goal.returns
-returns c = λ b. omega (arith, c.loop-i.invariant.2 b, total-end (unacked_at c.args.halves.now b) c.loop-i.i c.args.count len_u c.loop-i-test.false)
+returns c = λ b.
+    let h = c.args.halves.now in
+    let n = c.args.count in
+    let room : 512 ≤ length h = omega arith in
+    let ls = lens h n c.requires.few room in
+    sum_from_yields_List c.iter.result _ c.sum-sum.ensures.ran (YieldsList-from_slice ls (cc)) ∙ total-sum itself ls ∙ run_lens h n c.requires.few room b

@@ -1,21 +1,36 @@
-use mathlib.Core.Path.{refl, ◌∙◌}
-use Prim.Native.Nat.{◌+◌}
-use lib.Dec.{eqb}
-use Rattle.parts.specs.Parts.{at}
-use Rattle.parts.proofs.Flags.{as_number, as_few}
+use Prim.Native.Nat.{◌≤◌, ◌<◌, ◌^◌}
 use native.Mathlib.Omega.{arith}
-use Rattle.link_queue.proofs.Finds.{counted_none, counted_more, counted_all}
+use mathlib.Core.Path.{ap, ◌∙◌}
+use lib.Dec.{ltb}
+use lib.ListN.{length}
+use Rattle.std.specs.List.{sum_by}
+use Rattle.std.proofs.Common.{rules, tests}
+use Rattle.std.proofs.lemmas.Iterator.{YieldsList-from_slice, YieldsList-from_map}
+use Rattle.std.proofs.lemmas.Iterator.Consumers.{sum_by_from_yields_List, fits_by_from_yields_list}
+use Rattle.stores.proofs.Words.{total-sum}
+use Rattle.link_queue.proofs.Finds.{run, hit, hits_few, hits_any}
 use Rattle.link_queue.proofs.find.Goals as goal
 
-pub loop-i-init : goal.loop-i-init
-loop-i-init c = (refl, c.requires, omega arith, counted_none _ _)
-
-pub loop-i-preserved : goal.loop-i-preserved
-loop-i-preserved c =
-    let l = c.loop-i in
-    (l.invariant.0, l.invariant.1, omega arith, counted_more _ _ _ _ _ l.invariant.3 (c.from-sum.ensures ∙ as_number _) (omega (arith, c.from-sum.ensures, as_few (eqb (at c.args.words.now (16 + l.i)) c.args.number))))
+pub sum-found-requires-clause-fits : goal.sum-found-requires-clause-fits
+sum-found-requires-clause-fits c =
+    let n = c.args.number in
+    let w = c.args.words.now in
+    let room : 272 ≤ length w = omega arith in
+    let numbers = run n w c.requires room in
+    let one = hit n w c.requires room in
+    let fits : sum_by one numbers < 2 ^ 64 = omega (arith, hits_few n w c.requires room, total-sum one numbers) in
+    fits_by_from_yields_list one numbers c.map.result _
+    (YieldsList-from_map _ one (YieldsList-from_slice numbers (cc)) c.map.ensures.closure (λ x r q k. search (rules, tests))) fits
 
 pub returns : goal.returns
-returns c =
-    let l = c.loop-i in
-    counted_all _ _ _ _ l.invariant.3 l.invariant.2 c.loop-i-test.false l.invariant.1
+returns c = λ h b o.
+    let n = c.args.number in
+    let w = c.args.words.now in
+    let room : 272 ≤ length w = omega arith in
+    let numbers = run n w c.requires room in
+    let one = hit n w c.requires room in
+    ap (ltb 0)
+    (sum_by_from_yields_List one numbers c.map.result _ c.sum-found.ensures.ran
+    (YieldsList-from_map _ one (YieldsList-from_slice numbers (cc)) c.map.ensures.closure (λ x r q k. search (rules, tests)))
+    ∙ total-sum one numbers)
+    ∙ hits_any n w c.requires room h b o

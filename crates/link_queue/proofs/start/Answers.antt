@@ -1,17 +1,27 @@
-use mathlib.Core.Path.{sym}
+use Prim.Native.Nat.{◌+◌, ◌-◌, ◌<◌, ◌^◌}
 use native.Mathlib.Omega.{arith}
-use Rattle.link_queue.proofs.Sums.{bodies-none, bodies_more, bodies-small}
+use mathlib.Core.Path.{◌∙◌}
+use lib.ListN.{take, drop}
+use Rattle.std.specs.List.{sum}
+use Rattle.std.proofs.lemmas.Iterator.{YieldsList-from_slice}
+use Rattle.std.proofs.lemmas.Iterator.Consumers.{sum_from_yields_List, fits_from_yields_list}
+use Rattle.rules.specs.Lists.{itself}
+use Rattle.stores.proofs.Words.{total-sum}
+use Rattle.link_queue.proofs.Sums.{run-bodies}
 use Rattle.link_queue.proofs.start.Goals as goal
 
-pub loop-i-init : goal.loop-i-init
-loop-i-init c = (c.requires, omega arith, sym (bodies-none c.args.halves.now))
+pub sum-sum-requires-clause-fits : goal.sum-sum-requires-clause-fits
+sum-sum-requires-clause-fits c =
+    let h = c.args.halves.now in
+    let k = c.args.k in
+    let fits : sum (take (512 + k - 512) (drop 512 h)) < 2 ^ 32 =
+    omega (arith, c.requires.few, c.requires.small, total-sum itself (take (512 + k - 512) (drop 512 h)), run-bodies h k (omega arith)) in
+    fits_from_yields_list c.iter.result _ (YieldsList-from_slice (take (512 + k - 512) (drop 512 h)) (cc)) fits
 
-pub overflow_add-sum-in-loop-i : goal.overflow_add-sum-in-loop-i
-overflow_add-sum-in-loop-i c =
-    let l = c.loop-i in
-    omega (arith, l.invariant, bodies-small c.args.halves.now c.args.k l.i l.invariant.0 c.loop-i-test.true)
-
-pub loop-i-preserved : goal.loop-i-preserved
-loop-i-preserved c =
-    let l = c.loop-i in
-    (l.invariant.0, omega arith, omega (arith, l.invariant, bodies_more c.args.halves.now l.i))
+pub returns : goal.returns
+returns c =
+    let h = c.args.halves.now in
+    let k = c.args.k in
+    sum_from_yields_List c.iter.result _ c.sum-sum.ensures.ran (YieldsList-from_slice (take (512 + k - 512) (drop 512 h)) (cc))
+    ∙ total-sum itself (take (512 + k - 512) (drop 512 h))
+    ∙ run-bodies h k (omega arith)

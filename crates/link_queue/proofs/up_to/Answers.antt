@@ -1,14 +1,25 @@
+use Prim.Native.Nat.{◌≤◌}
 use native.Mathlib.Omega.{arith}
-use Rattle.parts.specs.Parts.{at}
-use Rattle.link_queue.proofs.Finds.{leads_some, leads_all}
+use mathlib.Core.Path.{refl, ◌∙◌}
+use lib.Dec.{leb}
+use lib.ListN.{length}
+use Rattle.std.proofs.Common.{rules, tests}
+use Rattle.std.proofs.lemmas.Iterator.{YieldsList-from_slice}
+use Rattle.std.proofs.lemmas.Iterator.Consumers.{count_from_yields_List}
+use Rattle.std.proofs.lemmas.Iterator.Search.{YieldsList-from_take_while}
+use Rattle.std.proofs.lemmas.List.Folds.{length-prefix_len}
+use Rattle.stores.proofs.Words.{front_prefix}
+use Rattle.link_queue.proofs.Finds.{run, leads_run}
 use Rattle.link_queue.proofs.up_to.Goals as goal
-
-pub returns-then-number-words : goal.returns-then-number-words
-returns-then-number-words c =
-    let l = c.loop-i in
-    leads_some c.args.number c.args.words.now l.i l.invariant.1 l.invariant.2 l.invariant.3 c.if-number-words.true
 
 pub returns : goal.returns
 returns c =
-    let l = c.loop-i in
-    leads_all c.args.number c.args.words.now (at c.args.words.now 4) l.invariant.1 (omega arith) (λ j k. l.invariant.3 j (omega arith)) (omega arith)
+    let n = c.args.number in
+    let w = c.args.words.now in
+    let room : 272 ≤ length w = omega arith in
+    let numbers = run n w c.requires room in
+    leads_run n w c.requires room c.count.result
+    (count_from_yields_List c.take_while.result _ c.count.ensures.ran
+    (YieldsList-from_take_while _ (λ x. leb x n) (YieldsList-from_slice numbers (cc)) c.take_while.ensures.closure c.take_while.ensures.done (λ x b q k. search (rules, tests)))
+    ∙ length-prefix_len (λ x. leb x n) numbers
+    ∙ front_prefix _ _ (λ x. refl) numbers)
