@@ -144,11 +144,7 @@ fn read_command(fields: &mut Fields, body: &mut [u8]) -> Option<Call> {
     if !present && (id != 0 || len != 0) {
         return None;
     }
-    let command = if present {
-        Some(Command { id, len })
-    } else {
-        None
-    };
+    let command = present.then_some(Command { id, len });
     Some(Call::Command { restoring, command })
 }
 

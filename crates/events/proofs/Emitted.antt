@@ -1,6 +1,6 @@
 -- What `emit_if` writes, as events listed. Assumes nothing.
 use Rattle.std.specs.Prelude.{if◌then◌else◌}
-use mathlib.Core.Path.{◌≡◌, sym, ap, ◌∙◌}
+use mathlib.Core.Path.{◌≡◌, refl, sym, ap, ◌∙◌}
 use mathlib.Core.Bool.{Bool, true, false}
 use mathlib.Core.List.{List, [], ◌∷◌}
 use Prim.Native.Nat.{ℕ, ◌+◌, ◌*◌, ◌≤◌}
@@ -15,6 +15,9 @@ use Rattle.events.specs.Written.{ListedIn}
 use Rattle.events.specs.Emitted.{EmittedIf}
 
 module _ {goes : Bool} {code number start len : ℕ} {l : List ℕ} {n : ℕ} where
+  pub emitted_now : {l' : List ℕ} → goes ≡ true → l' ≡ placed l (4 * n) (code ∷ number ∷ start ∷ len ∷ []) → EmittedIf goes code number start len l n l' (n + 1)
+  emitted_now e w = rw e (record { count = refl; words = w })
+
   pub emitted_not : goes ≡ false → EmittedIf goes code number start len l n l n
   emitted_not e = rw e (record { count = sym (add-zero n); words = sym (placed-none l (4 * n)) })
 

@@ -86,10 +86,6 @@ impl<'a> Fields<'a> {
     pub fn end(&self) -> Option<()>
         ensures { is_some result ≡ eqb self.now.end (length self.now.line.now) }
     {
-        if self.end == self.line.len() {
-            Some(())
-        } else {
-            None
-        }
+        (self.end == self.line.len()).then_some(())
     }
 }
