@@ -1,5 +1,5 @@
 -- An ack on the parts of a session, done in place. Assumes nothing.
-use Rattle.std.specs.Prelude.{if◌then◌else◌, Result, Ok, Err}
+use Rattle.std.specs.Prelude.{if◌then◌else◌}
 use Prim.Native.Nat.{ℕ, ◌+◌, ◌≤◌, ◌<◌}
 use mathlib.Core.Path.{◌≡◌, refl, sym, ap, ◌∙◌, subst}
 use mathlib.Core.Bool.{Bool, true, false, ◌&&◌, ◌||◌}
@@ -9,17 +9,14 @@ use lib.Ieee.{Float}
 use lib.ListN.{length, set, length-set}
 use lib.Seq.{get_or-set_same}
 use lib.Dec.{leb, eqb}
-use borrow.Author.Tests.{le-leb}
 use Rattle.rules.specs.declared.Answer.TheVariants.{Flag, Refused}
-use Rattle.rules.specs.declared.Refusal.{Refusal}
 use Rattle.rules.specs.declared.ReceiveMode.TheVariants.{Raw, Proposal, Channel, Rejection, Retiring}
-use Rattle.rules.specs.declared.Refusal.TheVariants.{ShortBuffer, AckOutOfRange}
+use Rattle.rules.specs.declared.Refusal.TheVariants.{AckOutOfRange}
 use Rattle.rules.specs.declared.Clock.{Clock}
 use Rattle.rules.specs.Lists.{Bytes, kept, empty}
 use Rattle.rules.specs.State.{is_raw}
-use Rattle.rules.specs.Acks.{survives, receive_ack}
-use Rattle.rules.specs.Buffers.{taken_by, wrong_code, queue_reach}
-use Rattle.rules.specs.Calls.{gets_ack, step}
+use Rattle.rules.specs.Acks.{survives}
+use Rattle.rules.specs.Calls.{gets_ack}
 use Rattle.events.specs.Written.{Listed, asked}
 use Rattle.outbox.specs.View.{unacked_of, ExactOutbox}
 use Rattle.peer_session.specs.declared.Stage.{Stage}
@@ -38,7 +35,7 @@ use Rattle.parts.specs.Driven.{Driven}
 use Rattle.parts.proofs.Seats.{length-seats}
 use Rattle.parts.proofs.Fields.{Agree, agree_past, agree_set, agree_then, outbox-same, clock-same, numbers-same, section-same}
 use Rattle.parts.proofs.After.{Kept, other, after, agree_all}
-use Rattle.parts.proofs.Drives.{changes, refuses}
+use Rattle.parts.proofs.Drives.{changes}
 use Rattle.link_outbox.specs.Steps.{Drops}
 use Rattle.link_sound.proofs.Parts.{Usable, usable}
 use Rattle.link_codes.proofs.Enums.{stage-good}
