@@ -4,9 +4,7 @@ use mathlib.Core.Bool.{Bool, true, false}
 use mathlib.Core.List.{List, []}
 use mathlib.Core.Option.{Option, none, some}
 use Prim.Native.Nat.{ℕ, ◌+◌, ◌≤◌}
-use native.Mathlib.Omega.{arith}
-use lib.ListN.{length, take, drop, replicate, length-replicate}
-use lib.Seq.{take_at}
+use lib.ListN.{length, take}
 use Rattle.rules.specs.declared.Answer.TheVariants.{Done, Refused}
 use Rattle.rules.specs.declared.Refusal.{Refusal}
 use Rattle.rules.specs.declared.Refusal.TheVariants.{HandoffWithoutCommand}
@@ -16,8 +14,6 @@ use Rattle.rules.specs.State.{handoff_is}
 use Rattle.rules.specs.Progress.{Progress, stays, ◌then◌, request, Outcome, outcome, answers}
 use Rattle.rules.specs.Handoff.{Command, handing_off, channel_command}
 use Rattle.rules.specs.Sending.{allocate}
-use Rattle.stores.specs.Placed.{placed}
-use Rattle.stores.proofs.Laws.{length-placed}
 use Rattle.std.specs.Prelude.{Ok, Err}
 use Rattle.events.specs.Written.{asked}
 use Rattle.events.proofs.Laws.{listed-none}
@@ -31,21 +27,6 @@ use Rattle.setup.specs.Steps.{Joins, Asks, Comes}
 use Rattle.outbox.proofs.View.{stays-packed}
 use Rattle.setup.proofs.Steps.{turned_is, stopped}
 use Rattle.handoffs.specs.Commands.{commanding, HandsOver}
-
--- ---- a new handoff
-
-pub hands_over : (id number : ℕ) (b x : Bytes) → length b ≤ 4096 → x ≡ placed (replicate 4096 0) 0 b
-    → HandsOver id number b (record { body = x; len = length b; id = id; number = number; sent = false; acknowledged = false; present = true })
-unfolding placed
-hands_over id number b x h e =
-    let z : Bytes = replicate 4096 0 in
-    let lz : length z ≡ 4096 = length-replicate {A = ℕ} 4096 0 in
-    let front : take (length b) x ≡ b = ap (take (length b)) e ∙ take_at b (drop (0 + length b) z) (length b) refl in
-    record {
-      is = ap (λ (y : Bytes). some (record { id = id; number = number; body = y; sent = false; acknowledged = false })) front;
-      full = ap length e ∙ length-placed z 0 b (omega arith) ∙ lz;
-      size = h;
-    }
 
 -- ---- a step that leaves both stores
 

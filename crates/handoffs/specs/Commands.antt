@@ -14,8 +14,8 @@ use Rattle.outbox.specs.Sound.{sound_outbox_of}
 use Rattle.handoffs.specs.declared.Command as Lent
 use Rattle.peer_session.specs.declared.TerminalHandoff.{TerminalHandoff}
 use Rattle.peer_session.specs.declared.SessionState.{SessionState}
-use Rattle.peer_session.specs.View.{handoff_of, handoff_length}
 use Rattle.setup.specs.Steps.{Ready, staged}
+use Rattle.restores.specs.Steps.{Handed}
 
 -- a command whose body lies in a lent buffer
 abbrev pub lent_command : Lent.Command → Command
@@ -40,10 +40,8 @@ abbrev pub commanding : Bool → Option Command → R.State → Outcome
 commanding restoring c t = answers Done (channel_command restoring c t.stage.handoff t then request)
 
 -- a new handoff
-pub record HandsOver (id number : ℕ) (b : Bytes) (r : TerminalHandoff) : Type 0 where
-  pub is : handoff_of r ≡ some (record { id = id; number = number; body = b; sent = false; acknowledged = false })
-  pub full : length r.body ≡ 4096
-  pub size : handoff_length r ≤ 4096
+abbrev pub HandsOver : ℕ → ℕ → Bytes → TerminalHandoff → Type 0
+HandsOver id number b = Handed (some (record { id = id; number = number; body = b; sent = false; acknowledged = false }))
 
 abbrev pub carries_body : ℕ → Bytes → R.Unacked → Bool
 carries_body n b u = eqb u.number n && same u.body b

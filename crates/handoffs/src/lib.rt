@@ -10,10 +10,11 @@ ghost use Rattle.outbox.specs.Sound.{sound_outbox_of};
 ghost use Rattle.outbox.specs.View.{unacked_of, ExactOutbox};
 ghost use Rattle.session.specs.Promise.{CalledWithOutbound};
 ghost use Rattle.setup.specs.Steps.{Comes};
-ghost use Rattle.handoffs.specs.Commands.{lent_command, command_in, command_of, starting_in, commanding, HandsOver, carries_body, Vacant, Holding, validating};
+ghost use Rattle.handoffs.specs.Commands.{lent_command, command_in, command_of, starting_in, commanding, carries_body, Vacant, Holding, validating};
 
 use outbox::Outbox;
-use peer_session::{SessionState, TerminalHandoff};
+use peer_session::SessionState;
+use restores::Given;
 use rules::{Refusal, Setup};
 use session::{ANY, Returned};
 
@@ -44,24 +45,6 @@ fn starting(s: SessionState, restoring: bool) -> SessionState
         return s;
     }
     setup::set_up(s, s.stage.disposition, Setup::Started)
-}
-
-// A new handoff, with a copy of the body.
-fn handed(id: u64, number: u64, body: &[u8]) -> TerminalHandoff
-    requires { length body.now ≤ 4096 }
-    ensures { HandsOver id number body.now result }
-{
-    let mut bytes = [0u8; 4096];
-    stores::copy_in(&mut bytes, 0, body);
-    TerminalHandoff {
-        body: bytes,
-        len: body.len(),
-        id: id,
-        number: number,
-        sent: false,
-        acknowledged: false,
-        present: true,
-    }
 }
 
 // The size that counts: no command has none. Kept beside `restores::size_of`, which is of a Given. One for both would want a trait over the two types. Tried:
@@ -117,8 +100,15 @@ fn hand_off(s: SessionState, list: &mut [u64], outbound: &mut [u8], c: Command) 
     let number = s.outbox.next;
     match setup::join(s, outbound, s.stage.disposition, c.body) {
         Ok(joined) => {
+            let given = Given {
+                id: c.id,
+                number,
+                sent: false,
+                acknowledged: false,
+                body: c.body,
+            };
             let mut r = joined;
-            r.handoff = handed(c.id, number, c.body);
+            r.handoff = restores::handed(Some(given));
             setup::done(r, list)
         }
         Err(x) => session::refused(s, x),

@@ -1,5 +1,5 @@
 -- An ack on the parts of a session, done in place. Assumes nothing.
-use Rattle.std.specs.Prelude.{if◌then◌else◌, Result, Ok, Err}
+use Rattle.std.specs.Prelude.{if◌then◌else◌}
 use Prim.Native.Nat.{ℕ, ◌+◌, ◌≤◌, ◌<◌}
 use mathlib.Core.Path.{◌≡◌, refl, sym, ap, ◌∙◌, subst}
 use mathlib.Core.Bool.{Bool, true, false, ◌&&◌, ◌||◌}
@@ -9,17 +9,14 @@ use lib.Ieee.{Float}
 use lib.ListN.{length, set, length-set}
 use lib.Seq.{get_or-set_same}
 use lib.Dec.{leb, eqb}
-use borrow.Author.Tests.{le-leb}
 use Rattle.rules.specs.declared.Answer.TheVariants.{Flag, Refused}
-use Rattle.rules.specs.declared.Refusal.{Refusal}
 use Rattle.rules.specs.declared.ReceiveMode.TheVariants.{Raw, Proposal, Channel, Rejection, Retiring}
-use Rattle.rules.specs.declared.Refusal.TheVariants.{ShortBuffer, AckOutOfRange}
+use Rattle.rules.specs.declared.Refusal.TheVariants.{AckOutOfRange}
 use Rattle.rules.specs.declared.Clock.{Clock}
 use Rattle.rules.specs.Lists.{Bytes, kept, empty}
 use Rattle.rules.specs.State.{is_raw}
-use Rattle.rules.specs.Acks.{survives, receive_ack}
-use Rattle.rules.specs.Buffers.{taken_by, wrong_code, queue_reach}
-use Rattle.rules.specs.Calls.{gets_ack, step}
+use Rattle.rules.specs.Acks.{survives}
+use Rattle.rules.specs.Calls.{gets_ack}
 use Rattle.events.specs.Written.{Listed, asked}
 use Rattle.outbox.specs.View.{unacked_of, ExactOutbox}
 use Rattle.peer_session.specs.declared.Stage.{Stage}
@@ -36,15 +33,16 @@ use Rattle.parts.specs.Parts.{Parts, parts, at, flag, section, unacked_at, outbo
 use Rattle.parts.specs.Frames.{Past}
 use Rattle.parts.specs.Driven.{Driven}
 use Rattle.parts.proofs.Seats.{length-seats}
-use Rattle.parts.proofs.Fields.{Agree, agree_past, agree_set, agree_then, outbox-same, numbers-same, section-same}
+use Rattle.parts.proofs.Fields.{Agree, agree_past, agree_set, agree_then, outbox-same, clock-same, numbers-same, section-same}
 use Rattle.parts.proofs.After.{Kept, other, after, agree_all}
-use Rattle.parts.proofs.Drives.{changes, refuses}
+use Rattle.parts.proofs.Drives.{changes}
 use Rattle.link_outbox.specs.Steps.{Drops}
 use Rattle.link_sound.proofs.Parts.{Usable, usable}
 use Rattle.link_codes.proofs.Enums.{stage-good}
 use Rattle.link_draining.specs.Steps.{Failing}
 use Rattle.link_sending.specs.Sends.{Ready}
-use Rattle.link_acks.specs.Acks.{outside, BeyondIn, raised_if}
+use Rattle.link_sending.proofs.Sends.{low_generation}
+use Rattle.link_acks.specs.Acks.{outside, BeyondIn}
 use Rattle.link_sound.proofs.Lengths.{bytes-long}
 
 -- ---- what good codes say
@@ -141,7 +139,9 @@ module _ (w h b : List ℕ) (t : Float) (lh : length h ≡ 772) (lw : 1296 ≤ l
 
 -- ---- the call
 
-clock-raised : (e : Bool) (c : Clock) → record { last_replay_at = c.last_replay_at; generation = raised_if e c.generation; released = c.released; persisted = c.persisted } ≡ clock_after e c
+-- of the clock, an ack raises the generation alone
+clock-raised : (e : Bool) (c : Clock)
+    → record { last_replay_at = c.last_replay_at; generation = (clock_after e c).generation; released = c.released; persisted = c.persisted } ≡ clock_after e c
 clock-raised true c = refl
 clock-raised false c = refl
 
@@ -153,16 +153,22 @@ module _ (w h b : List ℕ) (t : Float) (l : List ℕ) (o : Bytes) (number : ℕ
   pub messages-exact : ExactOutbox (outbox_in w h b) (length o)
   messages-exact = used.unacked o ready.outbound
 
-  module _ {w' h' b' : List ℕ} {o' : Bytes} (d : Drops number w h b o w' h' b' o') (g f : ℕ) (raised : g ≡ raised_if (eqb (at w' 1) (at w 1)) (at h 768))
+  module _ {w' h' b' : List ℕ} {o' : Bytes} (d : Drops number w h b o w' h' b' o') where
+    clock-kept : clock_in h' t ≡ clock_in h t
+    clock-kept = clock-same t (agree_past 768 771 (omega arith) d.halves)
+
+    -- the generation can still be raised
+    pub low-kept : {c : Clock} → c ≡ clock_in h' t → c.generation < 4294966000
+    low-kept e = rw (e ∙ clock-kept) (low_generation w h b t ready)
+
+  module _ {w' h' b' : List ℕ} {o' : Bytes} (d : Drops number w h b o w' h' b' o') (f : ℕ)
       (flagged : flag f ≡ (flag (at b 774) || (flag (at b 773) && leb (at w 9) number))) where
     -- how many are left
     abbrev k : ℕ
     k = length (kept (survives number) (unacked_of (outbox_in w h b) o))
 
-    dates : (lh : length h ≡ 772) → {c : Clock} → c ≡ clock_in (set h' 768 g) t → c ≡ record { last_replay_at = t; generation = g; released = at h 769; persisted = at h 770 }
-    dates lh e =
-        e
-        ∙ clock_dated w h b t lh used.words (bytes-long w h b t ready.checked.full) w' h' b' k d.words d.halves d.bytes g f
+    dates : (e : Bool) {c : Clock} → c ≡ clock_after e (clock_in h t) → record { last_replay_at = t; generation = c.generation; released = at h 769; persisted = at h 770 } ≡ clock_after e (clock_in h t)
+    dates e x = ap (λ (z : Clock). record { last_replay_at = t; generation = z.generation; released = at h 769; persisted = at h 770 }) x ∙ clock-raised e (clock_in h t)
 
     -- a rejection is complete where no message is left
     completes : (x : Bytes) → (eqb (at b 768) 4 && eqb (at w' 1) 0) ≡ (eqb (stage_of (codes_in h b)).disposition 4 && empty (unacked_of (outbox_in w' h' b') x))
@@ -170,19 +176,20 @@ module _ (w h b : List ℕ) (t : Float) (l : List ℕ) (o : Bytes) (number : ℕ
         ap (λ (i : ℕ). eqb i 4 && eqb (at w' 1) 0) (disposition_is (codes_in h b) used.codes)
         ∙ ap (λ (z : Bool). eqb (stage_of (codes_in h b)).disposition 4 && z) (sym (empty-unacked (outbox_in w' h' b') x (length-seats 256 (unacked_at h' b'))))
 
-    pub went : (lh : length h ≡ 772) → outside number (at w 0) ≡ false → {c : Clock} {l₁ l₂ : List ℕ} {n₁ n : ℕ} → c ≡ clock_in (set h' 768 g) t → Listed (asked c) l 0 l₁ n₁ → {x : Bool}
+    pub went : (lh : length h ≡ 772) → outside number (at w 0) ≡ false → {k₁ c : Clock} {l₁ l₂ : List ℕ} {n₁ n : ℕ} → k₁ ≡ clock_in h' t
+        → c ≡ clock_after (eqb (at w' 1) (at w 1)) k₁ → Listed (asked c) l 0 l₁ n₁ → {x : Bool}
         → x ≡ (eqb (at b 768) 4 && eqb (at w' 1) 0) → Listed (notices number x (eqb (at b 771) 0)) l₁ n₁ l₂ n → {y : LinkAnswer} → y ≡ answer_of (Flag true) n → (q : Bytes)
-        → 32768 ≤ length q → Driven (parts w h b t) (parts w' (set h' 768 g) (set b' 774 f) t) y (λ s r. CalledWithStores (gets_ack number) s l o q r l₂ o' q)
+        → 32768 ≤ length q → Driven (parts w h b t) (parts w' (set h' 768 c.generation) (set b' 774 f) t) y (λ s r. CalledWithStores (gets_ack number) s l o q r l₂ o' q)
     unfolding opened_of
-    went lh within {c} {l₁} {l₂} {n₁} {n} ec li {x} ex lj e q lq =
-        changes (parts w h b t) (sym ready.checked.is) (parts w' (set h' 768 g) (set b' 774 f) t) _
-        (ack_leaves w h b t lh used.words (bytes-long w h b t ready.checked.full) w' h' b' k d.words d.halves d.bytes g f) (Flag true) n e
+    went lh within {k₁} {c} {l₁} {l₂} {n₁} {n} ek ec li {x} ex lj e q lq =
+        let after : Bool = eqb (at w' 1) (at w 1) in
+        let is : c ≡ clock_after after (clock_in h t) = ec ∙ ap (clock_after after) (ek ∙ clock-kept d) in
+        changes (parts w h b t) (sym ready.checked.is) (parts w' (set h' 768 c.generation) (set b' 774 f) t) _
+        (ack_leaves w h b t lh used.words (bytes-long w h b t ready.checked.full) w' h' b' k d.words d.halves d.bytes c.generation f) (Flag true) n e
         (λ v. A.goes number (opened_of (parts w h b t)) l o q v ready.list ready.outbound lq (sym ready.checked.is) ready.checked.full ready.low within
         (acked-is number (opened_of (parts w h b t)) l o _ o'
-        (acknowledges number (opened_of (parts w h b t)) o (outbox_in w' h' b') o' _ (flag f) messages-exact d.left
-        (ap (λ (i : ℕ). record { last_replay_at = t; generation = i; released = at h 769; persisted = at h 770 }) raised
-        ∙ clock-raised (eqb (at w' 1) (at w 1)) (clock_in h t)) flagged)
-        (subst (λ (z : Clock). Listed (asked z) l 0 l₁ n₁) (dates lh ec) li)
+        (acknowledges number (opened_of (parts w h b t)) o (outbox_in w' h' b') o' _ (flag f) messages-exact d.left (dates after is) flagged)
+        (subst (λ (z : Clock). Listed (asked z) l 0 l₁ n₁) (is ∙ sym (dates after is)) li)
         (λ i j. ex ∙ completes i)
         (raw_is (codes_in h b) used.codes) lj))
 

@@ -18,10 +18,3 @@ pub record BeyondIn (p : Parts) (l : List ℕ) (q : Bytes) (x : LinkAnswer) (p' 
   pub events : ℕ
   pub breaks : OutOfRange (opened_of p) l q (record { session = opened_of p'; answer = Refused AckOutOfRange; events = events }) l' q'
   pub answers : x ≡ answer_of (Refused AckOutOfRange) events
-
--- ---- one of a message that was
-
--- the generation, by whether as many messages are left as there were
-abbrev pub raised_if : Bool → ℕ → ℕ
-raised_if true g = g
-raised_if false g = g + 1

@@ -1,7 +1,7 @@
 // Acks on the parts of a session, in place: the driver's call on the session that they are.
 #![tactic(auto)]
 
-ghost use Rattle.std.specs.Prelude.{◌≡◌, false, ◌&&◌, ◌||◌, ◌≤◌, ◌<◌, length, leb, eqb};
+ghost use Rattle.std.specs.Prelude.{◌≡◌, false, ◌&&◌, ◌||◌, ◌≤◌, length, leb, eqb};
 ghost use Rattle.rules.specs.Lists.{Bytes};
 ghost use Rattle.rules.specs.Calls.{gets_ack};
 ghost use Rattle.session.specs.Promise.{CalledWithStores};
@@ -9,7 +9,7 @@ ghost use Rattle.parts.specs.Parts.{parts, at, flag};
 ghost use Rattle.parts.specs.Driven.{Driven};
 ghost use Rattle.link_sending.specs.Sends.{Ready};
 ghost use Rattle.link_draining.specs.Steps.{Failing};
-ghost use Rattle.link_acks.specs.Acks.{outside, BeyondIn, raised_if};
+ghost use Rattle.link_acks.specs.Acks.{outside, BeyondIn};
 
 use parts::{Bytes, Halves, LinkAnswer, Words};
 use rules::{Answer, Disposition, ReceiveMode, Refusal};
@@ -22,25 +22,12 @@ fn out_of_range(next: u64, number: u64) -> bool
     number < 1 || next <= number
 }
 
-// The generation is raised where a message went.
-fn raised(generation: u32, before: u64, after: u64) -> u32
-    requires { generation < 4294966000 }
-    ensures { result ≡ raised_if (eqb after before) generation }
-{
-    if after == before {
-        return generation;
-    }
-    generation + 1
-}
-
 // Whether a handoff is acknowledged after an ack, as a flag.
 fn handoff_flag(before: u8, sent: u8, handoff: u64, number: u64) -> u8
     ensures { flag result ≡ (flag before || (flag sent && leb handoff number)) }
 {
-    if acks::handoff_acknowledged(before != 0, sent != 0, handoff, number) {
-        return 1;
-    }
-    0
+    let told = acks::handoff_acknowledged(before != 0, sent != 0, handoff, number);
+    link_codes::flag_byte(told)
 }
 
 // Whether a rejection is complete, by how many messages are left.
@@ -63,8 +50,7 @@ fn acknowledged(
     requires { Ready (parts words.old halves.old bytes.old clock.now) (length list.old) (length outbound.old) × (outside number (at words.old 0) ≡ false) }
     ensures { (q : Bytes) → 32768 ≤ length q → Driven (parts words.old halves.old bytes.old clock.now) (parts words.new halves.new bytes.new clock.now) result (λ s y. CalledWithStores (gets_ack number) s list.old outbound.old q y list.new outbound.new q) }
 {
-    let before = words[parts::UNACKED];
-    let generation = halves[parts::GENERATION];
+    let before = words[parts::UNACKED] as usize;
     let disposition = bytes[parts::DISPOSITION];
     let raw = bytes[parts::MODE] == ReceiveMode::Raw as u8;
     let flag = handoff_flag(
@@ -76,9 +62,10 @@ fn acknowledged(
     link_outbox::acknowledge(words, halves, bytes, outbound, number);
     let left = words[parts::UNACKED];
     bytes[parts::HANDOFF_ACKNOWLEDGED] = flag;
-    halves[parts::GENERATION] = raised(generation, before, left);
     let k = link_codes::clock_in(halves, clock);
-    let n = events::request(k, list, 0);
+    let after = acks::acknowledged_clock(k, before, left as usize);
+    halves[parts::GENERATION] = after.generation;
+    let n = events::request(after, list, 0);
     let m = acks::notify_acknowledged(complete(disposition, left), raw, list, n, number);
     link_codes::flag(true, m)
 }

@@ -1,6 +1,6 @@
 -- Codes to enums, test by test. Assumes nothing.
-use mathlib.Core.Path.{◌≡◌, ap, ◌∙◌}
-use mathlib.Core.Bool.{true, false}
+use mathlib.Core.Path.{◌≡◌, refl, ap, ◌∙◌}
+use mathlib.Core.Bool.{Bool, true, false}
 use Prim.Native.Nat.{ℕ, ◌≤◌}
 use lib.Dec.{eqb}
 use native.Mathlib.Omega.{arith}
@@ -13,11 +13,13 @@ use Rattle.rules.specs.declared.Setup.{Setup}
 use Rattle.rules.specs.declared.Setup.TheVariants as Setups
 use Rattle.rules.specs.declared.ReceiveMode.{ReceiveMode}
 use Rattle.rules.specs.declared.ReceiveMode.TheVariants.{Retiring}
+use Rattle.rules.specs.Answers.{flag_value}
 use Rattle.rules.specs.Codes.{ReadsMode}
 use Rattle.rules.specs.Receiving.{mode_of}
 use Rattle.peer_session.specs.declared.Stage.{Stage}
 use Rattle.parts.specs.declared.StageCodes.{StageCodes}
 use Rattle.parts.specs.Codes.{good_codes, setup_of, stage_of}
+use Rattle.parts.specs.Parts.{flag}
 
 -- ---- tests
 
@@ -45,6 +47,13 @@ module _ (n : ℕ) (t : Terms) where
 
       pub setup-none : (n ≡ 3 → ⊥) → Setups.None ≡ setup_of n t
       setup-none d = rw (ne_eqb n 1 a, ne_eqb n 2 b, ne_eqb n 3 d)
+
+-- ---- flags
+
+-- a flag that is written is read
+pub flag_read : (t : Bool) → flag (flag_value t) ≡ t
+flag_read true = refl
+flag_read false = refl
 
 -- ---- modes
 

@@ -37,13 +37,13 @@ use Rattle.link_sound.proofs.Lengths.{words-long, bytes-long}
 use Rattle.link_sound.proofs.Parts.{usable}
 use Rattle.link_sending.specs.Sends.{Ready, AllocatesIn}
 use Rattle.link_sending.proofs.Sends.{raised, left, clock-raised}
-use Rattle.link_setup.specs.Steps.{Stages}
+use Rattle.link_setup.specs.Steps.{Stages, AsksIn}
 use Rattle.link_setup.proofs.Stages.{stage_is, restaged, stages_apart, stage-starts}
 use Rattle.link_setup.proofs.Joins.{grown, joins, joins_not}
 use Rattle.link_starts.specs.Steps.{Between}
 use Rattle.link_restores.specs.Handed.{HandedIn}
 use Rattle.link_restores.proofs.Handoffs.{flag-there, flag_gone}
-use Rattle.link_handoffs.specs.Commands.{no_terms, Starts, ComesIn, AsksIn}
+use Rattle.link_handoffs.specs.Commands.{no_terms, Starts, ComesIn}
 
 -- ---- a step that leaves the parts
 
@@ -64,10 +64,6 @@ module _ {rule : R.State → Outcome} (p : Parts) (l : List ℕ) (o : Bytes) whe
 pub clocked : (w h b : List ℕ) (t : Float) {l l' : List ℕ} {y : LinkAnswer} → AsksIn (clock_in h t) l y l' → AsksIn (opened_of (parts w h b t)).clock l y l'
 unfolding opened_of
 clocked w h b t a = a
-
-pub is-asked : {c k : Clock} {l l' : List ℕ} {n : ℕ} {y : LinkAnswer} → k ≡ c → Listed (asked k) l 0 l' n → y ≡ answer_of Done n → AsksIn c l y l'
-is-asked {l = l} {l' = l'} {n = n} e li f =
-    record { events = n; listed = subst (λ (x : Clock). Listed (asked x) l 0 l' n) e li; answers = f }
 
 -- ---- setup started
 

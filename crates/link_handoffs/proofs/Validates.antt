@@ -26,8 +26,9 @@ use Rattle.parts.specs.Codes.{answer_of}
 use Rattle.parts.specs.Parts.{Parts, parts, at, flag, section, unacked_at, outbox_in, clock_in, opened_of}
 use Rattle.parts.proofs.Seats.{length-seats, get_d_seats}
 use Rattle.parts.proofs.Fields.{length-section}
-use Rattle.link_restores.proofs.Handoffs.{held-body, flag-there, flag_gone}
-use Rattle.link_handoffs.specs.Commands.{ComesIn, AsksIn, HoldingIn}
+use Rattle.link_restores.proofs.Handoffs.{flag-there, flag_gone}
+use Rattle.link_setup.specs.Steps.{AsksIn}
+use Rattle.link_handoffs.specs.Commands.{ComesIn, HoldingIn}
 use Rattle.link_handoffs.proofs.Steps.{refuses_in, asks_in, clocked}
 
 -- ---- what is asked of the unacked messages
@@ -42,16 +43,13 @@ module _ (w h b : List ℕ) (s : Bytes) (number : ℕ) where
       ∙ to_some number (outbox_in w h b) s sound (length-seats 256 (unacked_at h b)) n
 
 module _ (w h b : List ℕ) (o : Bytes) (k : HoldingIn w h b (length o)) {p : Option Place} (is : (x : List ℕ) → p ≡ place_u (at w 9) 0 (used_u (outbox_in w h x)))
-    {held : Bytes} (e : held ≡ take (at w 7) (drop 776 b)) where
+    {held : Bytes} (e : held ≡ take (at w 7) (section 776 4096 b)) where
   abbrev body : Bytes
   body = take (at w 7) (section 776 4096 b)
 
-  body_is : held ≡ body
-  body_is = e ∙ sym (held-body (at w 7) b k.within)
-
   pub carried_here : (q : Place) → p ≡ Some q → {m : Bytes} {r : Bool} → m ≡ take q.len (drop q.start o) → r ≡ same m held → r ≡ any (carries_body (at w 9) body) (unacked_of (outbox_in w h b) o)
   carried_here q f {m} em er =
-      er ∙ ap (λ (z : Bytes). same z held) em ∙ ap (λ (z : Bytes). same (take q.len (drop q.start o)) z) body_is
+      er ∙ ap (λ (z : Bytes). same z held) em ∙ ap (λ (z : Bytes). same (take q.len (drop q.start o)) z) e
       ∙ carries_here (at w 9) (outbox_in w h b) o k.sound (is b) body q f
 
   pub carried-none : p ≡ None → false ≡ any (carries_body (at w 9) body) (unacked_of (outbox_in w h b) o)

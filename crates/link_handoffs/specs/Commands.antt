@@ -1,8 +1,6 @@
 -- The steps of a command on the parts of a session. Assumes nothing.
 use Rattle.std.specs.Prelude.{ℕ, ◌≤◌, ◌≡◌, Bool, true, false, List, Float, length, Result, Ok, Err}
-use Rattle.rules.specs.declared.Clock.{Clock}
 use Rattle.rules.specs.declared.Refusal.{Refusal}
-use Rattle.rules.specs.declared.Answer.TheVariants.{Done}
 use Rattle.rules.specs.declared.Terms.{Terms}
 use Rattle.std.proofs.Math.Option.{Option}
 use Rattle.rules.specs.Lists.{Bytes}
@@ -10,7 +8,6 @@ use Rattle.rules.specs.State as R
 use Rattle.rules.specs.Progress.{Outcome}
 use Rattle.rules.specs.Handoff.{Command, command_size}
 use Rattle.rules.specs.Calls.{commands}
-use Rattle.events.specs.Written.{Listed, asked}
 use Rattle.outbox.specs.View.{ExactOutbox}
 use Rattle.outbox.specs.Sound.{sound_outbox_of}
 use Rattle.session.specs.declared.Returned.{Returned}
@@ -53,12 +50,6 @@ pub record ComesIn (rule : R.State → Outcome) (p p' : Parts) (l : List ℕ) (o
   pub comes : Comes rule (opened_of p) l o returned l' o'
   pub leaves : opened_of p' ≡ returned.session
   pub answers : x ≡ answer_of returned.answer returned.events
-
--- done, and what is requested by a clock
-pub record AsksIn (c : Clock) (l : List ℕ) (x : LinkAnswer) (l' : List ℕ) : Type 0 where
-  pub events : ℕ
-  pub listed : Listed (asked c) l 0 l' events
-  pub answers : x ≡ answer_of Done events
 
 -- a handoff that is there, with a store of n bytes
 pub record HoldingIn (w h b : List ℕ) (n : ℕ) : Type 0 where

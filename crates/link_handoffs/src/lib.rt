@@ -10,16 +10,17 @@ ghost use Rattle.outbox.specs.Sound.{sound_outbox_of};
 ghost use Rattle.outbox.specs.View.{unacked_of, ExactOutbox};
 ghost use Rattle.session.specs.Promise.{CalledWithOutbound};
 ghost use Rattle.handoffs.specs.Commands.{lent_command, command_in, commanding, carries_body, validating};
-ghost use Rattle.parts.specs.Parts.{parts, at, flag, section, clock_in, outbox_in};
+ghost use Rattle.parts.specs.Parts.{parts, at, flag, section, outbox_in};
 ghost use Rattle.parts.specs.Driven.{Driven};
 ghost use Rattle.link_sending.specs.Sends.{Ready};
-ghost use Rattle.link_handoffs.specs.Commands.{Enters, Starts, ComesIn, AsksIn, HoldingIn};
+ghost use Rattle.link_handoffs.specs.Commands.{Enters, Starts, ComesIn, HoldingIn};
 
 use handoffs::Command;
+use link_setup::{NO_TERMS, done};
 use parts::{Bytes, Halves, LinkAnswer, SetupCode, Words};
 use peer_session::SessionState;
 use restores::Given;
-use rules::{Refusal, Terms};
+use rules::Refusal;
 use session::ANY;
 
 // The tests of a command, in their order, a send's first: size is how many bytes of its body count.
@@ -50,21 +51,7 @@ fn starting(halves: &mut Halves, bytes: &mut Bytes, restoring: bool)
         return;
     }
     let disposition = bytes[parts::DISPOSITION];
-    let terms = Terms {
-        number: 0,
-        initiator: false,
-    };
-    link_setup::stage(halves, bytes, disposition, SetupCode::Started as u8, terms);
-}
-
-// Done, with a commit request where something is left to commit.
-fn done(halves: &Halves, clock: &f64, list: &mut [u64]) -> LinkAnswer
-    requires { 4096 ≤ length list.old }
-    ensures { AsksIn (clock_in halves.now clock.now) list.old result list.new }
-{
-    let k = link_codes::clock_in(halves, clock);
-    let n = events::request(k, list, 0);
-    link_codes::done(n)
+    link_setup::stage(halves, bytes, disposition, SetupCode::Started as u8, NO_TERMS);
 }
 
 // ---- the handoff that is there
@@ -74,12 +61,7 @@ fn same_body(words: &Words, bytes: &Bytes, body: &[u8]) -> bool
     requires { at words.now 7 ≤ 4096 }
     ensures { result ≡ same (take (at words.now 7) (section 776 4096 bytes.now)) body.now }
 {
-    let held = stores::part(
-        bytes,
-        parts::HANDOFF_BODY,
-        words[parts::HANDOFF_LEN] as usize,
-    );
-    stores::same_bytes(held, body)
+    stores::same_bytes(link_codes::handoff_body(words, bytes), body)
 }
 
 // Whether an unacked message has a number up to one.
@@ -94,11 +76,7 @@ fn carried(words: &Words, halves: &Halves, bytes: &Bytes, outbound: &[u8]) -> bo
     requires { HoldingIn words.now halves.now bytes.now (length outbound.now) }
     ensures { result ≡ any (carries_body (at words.now 9) (take (at words.now 7) (section 776 4096 bytes.now))) (unacked_of (outbox_in words.now halves.now bytes.now) outbound.now) }
 {
-    let held = stores::part(
-        bytes,
-        parts::HANDOFF_BODY,
-        words[parts::HANDOFF_LEN] as usize,
-    );
+    let held = link_codes::handoff_body(words, bytes);
     match link_outbox::locate(words, halves, words[parts::HANDOFF_NUMBER]) {
         Some(place) => stores::same_bytes(stores::part(outbound, place.start, place.len), held),
         None => false,
@@ -235,7 +213,7 @@ fn goes(
     pending(words, halves, bytes, clock, list, outbound, restoring, c)
 }
 
-// A channel's command: its body is handed to the link, or is there already. C has no Option: present says whether there is one, with id and body.
+// A channel's command: its body is handed to the link, or is there already.
 pub fn command(
     words: &mut Words,
     halves: &mut Halves,

@@ -7,7 +7,7 @@ use mathlib.Core.List.{List, [], ◌∷◌}
 use mathlib.Core.Option.{none, some}
 use native.Mathlib.Omega.{arith}
 use lib.ListN.{length, take, drop, set, length-set}
-use lib.Seq.{get_or-set_same, get_or-set_other, take-take, take_at, drop-set-lt}
+use lib.Seq.{get_or-set_same, get_or-set_other, take_at, drop-set-lt}
 use borrow.Author.Tests.{eq-eqb, ne_eqb}
 use Rattle.rules.specs.Lists.{Bytes, same}
 use Rattle.rules.specs.Answers.{flag_value}
@@ -19,20 +19,13 @@ use Rattle.parts.specs.Parts.{at, flag, section, handoff_in}
 use Rattle.parts.proofs.Fields.{length-section}
 use Rattle.link_starts.specs.Filled.{Filled}
 use Rattle.link_starts.proofs.Filling.{puts, puts_filled, placed_below, placed-above}
+use Rattle.link_codes.proofs.Bodies.{held-body}
+use Rattle.link_codes.proofs.Enums.{flag_read}
 use Rattle.link_restores.specs.Handed.{HandedIn}
 
 -- what a comparison of the held body tells
-pub body-told : (n : ℕ) (b body : Bytes) {l : Bytes} {r : Bool} → n ≤ 4096 → l ≡ take n (drop 776 b) → r ≡ same l body → same (take n (section 776 4096 b)) body ≡ r
-body-told n b body h e f = ap (λ (k : Bytes). same k body) (take-take n 4096 (drop 776 b) h ∙ sym e) ∙ sym f
-
--- a flag that is written is read
-pub flag_read : (t : Bool) → flag (flag_value t) ≡ t
-flag_read true = refl
-flag_read false = refl
-
--- the body that is held lies in a run of the bytes
-pub held-body : (n : ℕ) (b : Bytes) → n ≤ 4096 → take n (section 776 4096 b) ≡ take n (drop 776 b)
-held-body n b h = take-take n 4096 (drop 776 b) h
+pub body-told : (body : Bytes) {k l : Bytes} {r : Bool} → l ≡ k → r ≡ same l body → same k body ≡ r
+body-told body e f = ap (λ (z : Bytes). same z body) (sym e) ∙ sym f
 
 pub flag-there : (x : ℕ) → (x ≡ 0 → ⊥) → flag x ≡ true
 flag-there x e = rw (ne_eqb x 0 e)

@@ -19,7 +19,7 @@ use starts::Record;
 
 // ---- the handoff
 
-// Whether the handoff that is there is the one given, test by test as `restores` has it.
+// Whether the handoff that is there is the one given. No derive: the two sides are of different types.
 fn same_handoff(words: &Words, bytes: &Bytes, given: Given) -> bool
     requires { at words.now 7 ≤ 4096 }
     ensures { result ≡ same_handoff (held_in (handoff_in words.now bytes.now)) (lent_handoff given.entry) }
@@ -30,12 +30,7 @@ fn same_handoff(words: &Words, bytes: &Bytes, given: Given) -> bool
     if words[parts::HANDOFF_NUMBER] != given.number {
         return false;
     }
-    let held = stores::part(
-        bytes,
-        parts::HANDOFF_BODY,
-        words[parts::HANDOFF_LEN] as usize,
-    );
-    if !stores::same_bytes(held, given.body) {
+    if !stores::same_bytes(link_codes::handoff_body(words, bytes), given.body) {
         return false;
     }
     if (bytes[parts::HANDOFF_SENT] != 0) != given.sent {

@@ -9,8 +9,8 @@ ghost use Rattle.parts.specs.Parts.{parts, outbox_in};
 ghost use Rattle.parts.specs.Driven.{Driven};
 ghost use Rattle.link_retires.specs.Steps.{Retiring, RetiresIn, ForgetsIn};
 
+use link_setup::NO_TERMS;
 use parts::{Bytes, Halves, LinkAnswer, SetupCode, Words};
-use rules::Terms;
 use session::ANY;
 
 // No handoff, and an empty queue.
@@ -20,11 +20,7 @@ fn retired(words: &mut Words, halves: &mut Halves, bytes: &mut Bytes, queue: &mu
 {
     link_queue::clear(words, halves, bytes, queue);
     let disposition = bytes[parts::DISPOSITION];
-    let terms = Terms {
-        number: 0,
-        initiator: false,
-    };
-    link_setup::stage(halves, bytes, disposition, SetupCode::Retired as u8, terms);
+    link_setup::stage(halves, bytes, disposition, SetupCode::Retired as u8, NO_TERMS);
     bytes[parts::HANDOFF_PRESENT] = 0;
 }
 

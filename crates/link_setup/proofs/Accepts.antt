@@ -17,7 +17,7 @@ use Rattle.rules.specs.Calls.{accepts}
 use Rattle.rules.specs.Buffers.{taken_by, short, wrong_code, queue_reach}
 use Rattle.std.specs.Prelude.{Ok, Err}
 use Rattle.peer_session.specs.View.{state_of}
-use Rattle.peer_session.specs.Sound.{sound_of, Checked}
+use Rattle.peer_session.specs.Sound.{Checked}
 use Rattle.session.specs.Promise.{lent, CalledWithOutboundAlone}
 use Rattle.session.specs.Entry.{any_length, Enters}
 use Rattle.session.proofs.Entries.{stops}

@@ -3,7 +3,6 @@ use Prim.Native.Nat.{ℕ, ◌≤◌}
 use mathlib.Core.Path.{◌≡◌, refl, sym, ap, ◌∙◌}
 use mathlib.Core.Bool.{true, false}
 use mathlib.Core.List.{List}
-use native.Mathlib.Omega.{arith}
 use lib.Ieee.{Float}
 use lib.ListN.{length}
 use Rattle.rules.specs.declared.Answer.TheVariants.{Done, Refused}
@@ -27,7 +26,7 @@ use Rattle.parts.proofs.Drives.{leaves, changes, refuses}
 use Rattle.link_sound.proofs.Lengths.{bytes-long}
 use Rattle.link_sound.proofs.Parts.{usable}
 use Rattle.link_setup.specs.Steps.{Stages}
-use Rattle.link_setup.proofs.Stages.{low-setup, stage_is, is-fresh, is-waiting, is-started, is_retired, restaged, stages_apart, stage-waits}
+use Rattle.link_setup.proofs.Stages.{stage_is, restaged, stages_apart, stage-waits}
 
 -- ---- by the setup that there is
 
@@ -68,24 +67,22 @@ module _ (terms : Terms) (w h b : List ℕ) (t : Float) (k : Checked (opened_of 
   unfolding opened_of
   disposition_in = rw (stage_is (codes_in h b) (usable w h b t k).codes)
 
-  pub by_none : length h ≡ 772 → at b 769 ≡ 0 → {h' b' : List ℕ} → Stages (at b 768) 1 terms h b h' b' → {y : LinkAnswer} → y ≡ answer_of Done 0
+  pub by_none : length h ≡ 772 → (stage_of (codes_in h b)).setup ≡ None → {h' b' : List ℕ} → Stages (at b 768) 1 terms h b h' b' → {y : LinkAnswer} → y ≡ answer_of Done 0
       → Driven (parts w h b t) (parts w h' b' t) y (λ s r. CalledAlone (prepares_channel terms) s r)
   by_none lh e {h'} {b'} s f =
       let lb : 4936 ≤ length b = bytes-long w h b t k.full in
-      prepare_fresh terms (parts w h b t) k (setup_in (is-fresh (codes_in h b) (usable w h b t k).codes e)) (parts w h' b' t)
+      prepare_fresh terms (parts w h b t) k (setup_in e) (parts w h' b' t)
       (restaged w h b h' b' t lb (stages_apart h b lh lb (usable w h b t k).codes s) (at b 768) (Waiting terms) (stage-waits h b lh lb (usable w h b t k).codes s)
       ∙ ap (λ (d : ℕ). staged d (Waiting terms) (opened_of (parts w h b t))) (sym disposition_in))
       f
 
-  pub by_waiting : at b 769 ≡ 1 → {y : LinkAnswer} → y ≡ answer_of Done 0 → Driven (parts w h b t) (parts w h b t) y (λ s r. CalledAlone (prepares_channel terms) s r)
-  by_waiting e f = prepare_waiting terms (parts w h b t) k _ (setup_in (is-waiting (codes_in h b) (usable w h b t k).codes e)) f
+  pub by_waiting : {x : Terms} → (stage_of (codes_in h b)).setup ≡ Waiting x → {y : LinkAnswer} → y ≡ answer_of Done 0 → Driven (parts w h b t) (parts w h b t) y (λ s r. CalledAlone (prepares_channel terms) s r)
+  by_waiting e f = prepare_waiting terms (parts w h b t) k _ (setup_in e) f
 
-  pub by_started : at b 769 ≡ 2 → {y : LinkAnswer} → y ≡ answer_of (Refused ChannelStarted) 0
+  pub by_started : (stage_of (codes_in h b)).setup ≡ Started → {y : LinkAnswer} → y ≡ answer_of (Refused ChannelStarted) 0
       → Driven (parts w h b t) (parts w h b t) y (λ s r. CalledAlone (prepares_channel terms) s r)
-  by_started e f = prepare_started terms (parts w h b t) k (setup_in (is-started (codes_in h b) (usable w h b t k).codes e)) f
+  by_started e f = prepare_started terms (parts w h b t) k (setup_in e) f
 
-  pub by_retired : (at b 769 ≡ 0 → ⊥) → (at b 769 ≡ 1 → ⊥) → (at b 769 ≡ 2 → ⊥) → {y : LinkAnswer} → y ≡ answer_of (Refused SetupRetired) 0
+  pub by_retired : (stage_of (codes_in h b)).setup ≡ Retired → {y : LinkAnswer} → y ≡ answer_of (Refused SetupRetired) 0
       → Driven (parts w h b t) (parts w h b t) y (λ s r. CalledAlone (prepares_channel terms) s r)
-  by_retired n0 n1 n2 f =
-      let l : at b 769 ≤ 3 = low-setup (codes_in h b) (usable w h b t k).codes in
-      prepare_retired terms (parts w h b t) k (setup_in (is_retired (codes_in h b) (usable w h b t k).codes (omega arith))) f
+  by_retired e f = prepare_retired terms (parts w h b t) k (setup_in e) f

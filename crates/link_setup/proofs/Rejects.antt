@@ -18,7 +18,7 @@ use Rattle.peer_session.specs.Sound.{Checked}
 use Rattle.session.specs.Promise.{CalledWithOutbound}
 use Rattle.session.proofs.Lengths.{not_taken}
 use Rattle.setup.proofs.Lending as L
-use Rattle.setup.proofs.Accepts.{rejects_plain, reject_spent, reject-goes, reject-within}
+use Rattle.setup.proofs.Accepts.{rejects_plain, reject-goes, reject-within}
 use Rattle.setup.proofs.Steps.{rejection_stopped, rejected}
 use Rattle.parts.specs.declared.LinkAnswer.{LinkAnswer}
 use Rattle.parts.specs.Codes.{answer_of}
@@ -28,6 +28,7 @@ use Rattle.parts.proofs.Drives.{changes, refuses}
 use Rattle.link_sound.proofs.Lengths.{words-long, bytes-long}
 use Rattle.link_sending.specs.Sends.{Ready, AllocatesIn}
 use Rattle.link_sending.proofs.Sends.{raised, clock-raised}
+use Rattle.link_setup.specs.Steps.{AsksIn}
 use Rattle.link_setup.proofs.Joins.{joins, joins_not, joined_under}
 
 -- the reject body lies within its array
@@ -35,6 +36,11 @@ pub body-within : (w h b : List ℕ) (t : Float) {n : ℕ} (o : Bytes) → Ready
 unfolding opened_of
 body-within w h b t o ready j e =
     rw e (reject-within (opened_of (parts w h b t)) o (sym ready.checked.is) ready.checked.full ready.outbound)
+
+-- done, by the clock that a request goes by
+pub is-asked : {c k : Clock} {l l' : List ℕ} {n : ℕ} {y : LinkAnswer} → k ≡ c → Listed (asked k) l 0 l' n → y ≡ answer_of Done n → AsksIn c l y l'
+is-asked {l = l} {l' = l'} {n = n} e li f =
+    record { events = n; listed = subst (λ (x : Clock). Listed (asked x) l 0 l' n) e li; answers = f }
 
 module _ (w h b : List ℕ) (t : Float) (l : List ℕ) (o : Bytes) (ready : Ready (parts w h b t) (length l) (length o)) where
   abbrev k : Checked (opened_of (parts w h b t)) true
@@ -58,11 +64,10 @@ module _ (w h b : List ℕ) (t : Float) (l : List ℕ) (o : Bytes) (ready : Read
 
   module _ {j : RejectBody} (ej : j ≡ reject_in w b) where
     pub went : (lh : length h ≡ 772) {w' h' b' : List ℕ} {o' : Bytes} → AllocatesIn (take j.len j.bytes) w h b o (Ok tt) w' h' b' o'
-        → {c : Clock} → c ≡ clock_in (raised h h') t → {l' : List ℕ} {n : ℕ} → Listed (asked c) l 0 l' n → {y : LinkAnswer} → y ≡ answer_of Done n
+        → {l' : List ℕ} {y : LinkAnswer} → AsksIn (clock_in (raised h h') t) l y l'
         → Driven (parts w h b t) (parts w' (raised h h') (set b' 768 4) t) y (λ s r. CalledWithOutbound rejects s l o r l' o')
-    went lh {w'} {h'} {b'} {o'} a ec {l'} {n} li f =
-        rejects_it lh (subst (λ (x : RejectBody). AllocatesIn (take x.len x.bytes) w h b o (Ok tt) w' h' b' o') ej a)
-        (subst (λ (x : Clock). Listed (asked x) l 0 l' n) ec li) f
+    went lh {w'} {h'} {b'} {o'} a k =
+        rejects_it lh (subst (λ (x : RejectBody). AllocatesIn (take x.len x.bytes) w h b o (Ok tt) w' h' b' o') ej a) k.listed k.answers
 
     pub stopped : {w' h' b' : List ℕ} {o' : Bytes} {x : Refusal} → AllocatesIn (take j.len j.bytes) w h b o (Err x) w' h' b' o' → {y : LinkAnswer} → y ≡ answer_of (Refused x) 0
         → Driven (parts w h b t) (parts w' h' b' t) y (λ s r. CalledWithOutbound rejects s l o r l o')

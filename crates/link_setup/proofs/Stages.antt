@@ -26,7 +26,7 @@ use Rattle.parts.specs.Parts.{parts, at, flag, codes_in, opened_of}
 use Rattle.parts.proofs.Fields.{Agree, agree_within, agree_set, agree_then, outbox-same, queue-same, clock-same, handoff-same, reject-same}
 use Rattle.parts.proofs.After.{agree_all}
 use Rattle.parts.proofs.Opened.{opened_as}
-use Rattle.link_codes.proofs.Enums.{waits, terms_decide, setup-waiting, setup-started, setup-retired, setup-none, stage-good}
+use Rattle.link_codes.proofs.Enums.{waits, terms_decide, setup-waiting, setup-started, setup-retired, setup-none, flag_read, stage-good}
 use Rattle.link_setup.specs.Steps.{Stages}
 
 -- ---- what good codes say
@@ -103,10 +103,6 @@ module _ (w h b h' b' : List ℕ) (t : Float) (lb : 4936 ≤ length b) (r : Rest
 
 -- ---- what `stage` writes
 
-flagged : (i : Bool) → flag (flag_value i) ≡ i
-flagged true = refl
-flagged false = refl
-
 module _ (h b : List ℕ) (lh : length h ≡ 772) (lb : 4936 ≤ length b) (good : good_codes (codes_in h b) ≡ true) where
   module _ {d c : ℕ} {terms : Terms} {h' b' : List ℕ} (s : Stages d c terms h b h' b') where
     abbrev b₁ : List ℕ
@@ -145,7 +141,7 @@ module _ (h b : List ℕ) (lh : length h ≡ 772) (lb : 4936 ≤ length b) (good
         let g : Agree 771 773 b (set b₂ 770 i) = agrees 771 773 (λ p q. omega arith) (λ p q. omega arith) (λ p q. omega arith) in
         let m : at (set b₂ 770 i) 771 ≡ at b 771 = g.same 771 (omega arith) (omega arith) in
         let f : at (set b₂ 770 i) 772 ≡ at b 772 = g.same 772 (omega arith) (omega arith) in
-        rw (s.halves, s.bytes, n, x, y, z, m, f, flagged)
+        rw (s.halves, s.bytes, n, x, y, z, m, f, flag_read)
 
     stage-after : {x : Setup} → stage_of codes ≡ record { disposition = d; setup = x; mode = mode_of (at b 771); failed = flag (at b 772) } → stage_of (codes_in h' b') ≡ under d x (stage_of (codes_in h b))
     stage-after {x} e = ap stage_of codes_are ∙ e ∙ sym (ap (under d x) (stage_is (codes_in h b) good))

@@ -1,20 +1,31 @@
 -- The steps of a setup on the parts of a session. Assumes nothing.
 use Rattle.std.specs.Prelude.{ℕ, ◌≤◌, ◌<◌, ◌≡◌, true, List, Float, length, set, Result, Ok, Err}
+use Rattle.rules.specs.declared.Answer.TheVariants.{Done}
+use Rattle.rules.specs.declared.Clock.{Clock}
 use Rattle.rules.specs.declared.Refusal.{Refusal}
 use Rattle.rules.specs.declared.Terms.{Terms}
 use Rattle.rules.specs.Lists.{Bytes}
 use Rattle.rules.specs.Answers.{flag_value}
 use Rattle.rules.specs.Setup.{is_none}
 use Rattle.rules.specs.Calls.{accepts}
+use Rattle.events.specs.Written.{Listed, asked}
 use Rattle.peer_session.specs.Sound.{Checked}
 use Rattle.session.specs.declared.Returned.{Returned}
 use Rattle.session.specs.Promise.{lent, Called, Turned}
+use Rattle.parts.specs.declared.LinkAnswer.{LinkAnswer}
+use Rattle.parts.specs.Codes.{answer_of}
 use Rattle.parts.specs.Parts.{Parts, parts, opened_of}
 
 -- disposition d, and the setup of code c with these terms
 pub record Stages (d c : ℕ) (terms : Terms) (h b h' b' : List ℕ) : Type 0 where
   pub halves : h' ≡ set h 771 terms.number
   pub bytes : b' ≡ set (set (set b 768 d) 769 c) 770 (flag_value terms.initiator)
+
+-- done, and what is requested by a clock
+pub record AsksIn (c : Clock) (l : List ℕ) (x : LinkAnswer) (l' : List ℕ) : Type 0 where
+  pub events : ℕ
+  pub listed : Listed (asked c) l 0 l' events
+  pub answers : x ≡ answer_of Done events
 
 -- ---- accept: the tests in their order, for an outbound store of n bytes
 

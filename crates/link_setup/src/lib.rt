@@ -1,21 +1,37 @@
 // The calls that set a session up, on its parts, in place: the driver's calls on the session that they are.
 #![tactic(auto)]
 
-ghost use Rattle.std.specs.Prelude.{◌≡◌, true, length};
+ghost use Rattle.std.specs.Prelude.{◌≡◌, true, ◌≤◌, length};
 ghost use Rattle.rules.specs.Calls.{accepts, rejects, prepares_channel};
 ghost use Rattle.session.specs.Promise.{CalledWithOutbound, CalledWithOutboundAlone, CalledAlone};
-ghost use Rattle.parts.specs.Parts.{parts};
+ghost use Rattle.parts.specs.Parts.{parts, clock_in};
 ghost use Rattle.parts.specs.Driven.{Driven};
 ghost use Rattle.link_sending.specs.Sends.{Ready};
-ghost use Rattle.link_setup.specs.Steps.{Stages, Accepting, AcceptEnters};
+ghost use Rattle.link_setup.specs.Steps.{Stages, AsksIn, Accepting, AcceptEnters};
 
 use parts::{Bytes, Halves, LinkAnswer, SetupCode, Words};
-use rules::{Disposition, Refusal, Terms};
+use rules::{Disposition, Refusal, Setup, Terms};
 use session::ANY;
+
+// Done, with a commit request where something is left to commit.
+pub fn done(halves: &Halves, clock: &f64, list: &mut [u64]) -> LinkAnswer
+    requires { 4096 ≤ length list.old }
+    ensures { AsksIn (clock_in halves.now clock.now) list.old result list.new }
+{
+    let k = link_codes::clock_in(halves, clock);
+    let n = events::request(k, list, 0);
+    link_codes::done(n)
+}
 
 // ---- the stage
 
-// Another disposition, and the setup of another code.
+// The terms of a setup that has none.
+pub const NO_TERMS: Terms = Terms {
+    number: 0,
+    initiator: false,
+};
+
+// Another disposition, and the setup of another code. The setup is its byte and not a SetupCode, which would ask more of the callers: a byte of the four.
 pub fn stage(halves: &mut Halves, bytes: &mut Bytes, disposition: u8, setup: u8, terms: Terms)
     ensures { Stages disposition setup terms halves.old bytes.old halves.new bytes.new }
 {
@@ -40,19 +56,16 @@ pub fn prepare_channel(
     if !link_sound::sound(words, halves, bytes) {
         return link_codes::refusal(Refusal::BadRecord);
     }
-    let setup = bytes[parts::SETUP];
-    if setup == SetupCode::None as u8 {
-        let disposition = bytes[parts::DISPOSITION];
-        stage(halves, bytes, disposition, SetupCode::Waiting as u8, terms);
-        return link_codes::done(0);
+    match link_codes::setup_in(halves, bytes) {
+        Setup::None => {
+            let disposition = bytes[parts::DISPOSITION];
+            stage(halves, bytes, disposition, SetupCode::Waiting as u8, terms);
+            link_codes::done(0)
+        }
+        Setup::Waiting(_) => link_codes::done(0),
+        Setup::Started => link_codes::refusal(Refusal::ChannelStarted),
+        Setup::Retired => link_codes::refusal(Refusal::SetupRetired),
     }
-    if setup == SetupCode::Waiting as u8 {
-        return link_codes::done(0);
-    }
-    if setup == SetupCode::Started as u8 {
-        return link_codes::refusal(Refusal::ChannelStarted);
-    }
-    link_codes::refusal(Refusal::SetupRetired)
 }
 
 // ---- accept
@@ -178,9 +191,7 @@ fn send_reject(
         Ok(()) => {
             halves[parts::GENERATION] = generation + 1;
             bytes[parts::DISPOSITION] = Disposition::OutboundReject as u8;
-            let k = link_codes::clock_in(halves, clock);
-            let n = events::request(k, list, 0);
-            link_codes::done(n)
+            done(halves, clock, list)
         }
         Err(x) => link_codes::refusal(x),
     }

@@ -1,5 +1,4 @@
 -- A start on the parts of a session, by what it writes of them. Assumes nothing.
-use Rattle.std.specs.Prelude.{Result, Ok, Err}
 use Prim.Native.Nat.{ℕ, ◌+◌, ◌-◌, ◌≤◌, ◌<◌}
 use mathlib.Core.Path.{◌≡◌, refl, sym, ap, ◌∙◌, subst}
 use mathlib.Core.Bool.{false, true≢false}
@@ -12,13 +11,10 @@ use lib.Seq.{take-take, take_at}
 use Rattle.rules.specs.declared.Answer.TheVariants.{Done, Refused}
 use Rattle.rules.specs.declared.Policy.{Policy}
 use Rattle.rules.specs.declared.Refusal.{Refusal}
-use Rattle.rules.specs.declared.Refusal.TheVariants.{ShortBuffer}
 use Rattle.rules.specs.declared.Setup.TheVariants.{None}
 use Rattle.rules.specs.declared.ReceiveMode.TheVariants.{Raw}
 use Rattle.rules.specs.Lists.{Bytes, total, itself}
-use Rattle.rules.specs.Start.{start}
 use Rattle.rules.specs.Buffers.{filled}
-use Rattle.std.specs.Prelude.{Result, Ok, Err}
 use Rattle.stores.specs.Placed.{placed}
 use Rattle.stores.proofs.Laws.{length-placed, drop-placed}
 use Rattle.outbox.specs.declared.Outbox.{Outbox}
@@ -26,7 +22,7 @@ use Rattle.peer_session.specs.declared.SessionState.{SessionState}
 use Rattle.peer_session.specs.New.{New}
 use Rattle.starts.specs.declared.Reliable.{Reliable}
 use Rattle.starts.specs.Started.{short_record, Started}
-use Rattle.starts.specs.Records.{reliable_of, Recorded, Rejecting, Beginning, Begun, verdict_of}
+use Rattle.starts.specs.Records.{reliable_of, Recorded, Rejecting, Beginning, Begun, Judged, NotGood}
 use Rattle.starts.proofs.Messages.{Long, long_record}
 use Rattle.starts.proofs.Checks.{Good, found-good, good_beginning}
 use Rattle.starts.proofs.Begins as Plain
@@ -40,30 +36,10 @@ use Rattle.parts.proofs.After.{agree_all}
 use Rattle.link_starts.specs.Filled.{Filled}
 use Rattle.link_starts.proofs.Filling.{puts, puts_filled, placed_below}
 use Rattle.link_starts.specs.Steps.{Written}
-use Rattle.link_starts.specs.Starts.{Judged, NotGood, FoundStart, head, middle, BodyIn}
+use Rattle.link_starts.specs.Starts.{head, middle, BodyIn}
 use Rattle.link_starts.proofs.Messages.{recorded_in}
 
--- ---- the tests
-
-module _ (x : Reliable) (ns ks : List ℕ) (bodies : Bytes) (policy : Policy) (reject : Bytes) {n m : ℕ} where
-  pub short-outbound : n < 65536 → NotGood x ns ks bodies policy reject n m ShortBuffer
-  short-outbound h = record { call = λ o q eo eq r t. Plain.outbound-short x ns ks bodies policy reject o q r (omega (arith, eo)) t }
-
-  module _ (lo : 65536 ≤ n) where
-    pub short-queue : m < 32768 → NotGood x ns ks bodies policy reject n m ShortBuffer
-    short-queue h = record { call = λ o q eo eq r t. Plain.queue-short x ns ks bodies policy reject o q (omega (arith, eo)) r (omega (arith, eq)) t }
-
-    pub judged : 32768 ≤ m → {v : Result (Unit {0}) Refusal} → v ≡ verdict_of (short_record ns ks bodies) (start (reliable_of x ns ks bodies) policy reject)
-        → FoundStart x ns ks bodies policy reject n m v
-    judged lq {v = Ok u} e = record { outbound = lo; queue = lq; good = sym e }
-    judged lq {v = Err z} e =
-        record { call = λ o q eo eq r t. Plain.record_refused x ns ks bodies policy reject o q (omega (arith, eo)) (omega (arith, eq)) r z e t }
-
--- what the tests found, by their stop
-module _ (x : Reliable) (ns ks : List ℕ) (bodies : Bytes) (policy : Policy) (reject : Bytes) {n m : ℕ} {stop : Result (Unit {0}) Refusal}
-    (f : FoundStart x ns ks bodies policy reject n m stop) where
-  pub away : (z : Refusal) → stop ≡ Err z → NotGood x ns ks bodies policy reject n m z
-  away z e = subst (λ (s : Result (Unit {0}) Refusal). FoundStart x ns ks bodies policy reject n m s) e f
+-- ---- a refusal
 
 -- the session that a refused start of the plain driver hands out
 abbrev nothing-there : SessionState

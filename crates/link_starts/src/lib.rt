@@ -3,16 +3,15 @@
 
 ghost use Rattle.std.specs.Prelude.{◌∷◌, [], ◌≤◌, length};
 ghost use Rattle.starts.specs.Started.{Started};
-ghost use Rattle.starts.specs.Records.{Fitting, Beginning, Begun};
+ghost use Rattle.starts.specs.Records.{Fitting, Beginning, Begun, Judged};
 ghost use Rattle.parts.specs.Parts.{parts, at, opened_of};
 ghost use Rattle.link_starts.specs.Filled.{Filled};
 ghost use Rattle.parts.specs.Driven.{DrivenStart};
 ghost use Rattle.link_starts.specs.Steps.{Written, TakingIn, TakenIn};
-ghost use Rattle.link_starts.specs.Starts.{head, Judged, FoundStart, BodyIn};
+ghost use Rattle.link_starts.specs.Starts.{head, BodyIn};
 
 use parts::{Bytes, Halves, LinkAnswer, SetupCode, Words};
-use peer_session::SessionState;
-use rules::{Policy, ReceiveMode, Refusal};
+use rules::{Policy, ReceiveMode};
 use starts::{Record, Reliable};
 
 // ---- the messages of a record
@@ -52,25 +51,6 @@ pub fn take(
 }
 
 // ---- a start
-
-// The tests of a start, in their order. Not by `link_entry::enters`: there is no session yet.
-fn judge(
-    outbound: usize,
-    queue: usize,
-    record: Record,
-    policy: Policy,
-    reject: &[u8],
-) -> Result<(), Refusal>
-    ensures { FoundStart «record».entry.reliable «record».entry.numbers.now «record».entry.lengths.now «record».entry.bodies.now policy reject.now outbound queue result }
-{
-    if outbound < SessionState::OUTBOUND_BYTES {
-        return Err(Refusal::ShortBuffer);
-    }
-    if queue < SessionState::QUEUE_BYTES {
-        return Err(Refusal::ShortBuffer);
-    }
-    starts::judge(record, policy, reject)
-}
 
 // The numbers of a new session before its arrays: nothing is queued, no ack waits and there is no handoff.
 fn put_head(words: &mut Words, record: Reliable, count: usize, policy: Policy, reject: usize)
@@ -182,8 +162,7 @@ pub fn start(
 ) -> LinkAnswer
     ensures { DrivenStart (parts words.old halves.old bytes.old clock.old) (parts words.new halves.new bytes.new clock.new) result (λ y. Started «record».entry.reliable «record».entry.numbers.now «record».entry.lengths.now «record».entry.bodies.now policy reject.now outbound.old queue.old y outbound.new queue.new) }
 {
-    let stop = judge(outbound.len(), queue.len(), record, policy, reject);
-    match stop {
+    match starts::enters(outbound.len(), queue.len(), record, policy, reject) {
         Err(x) => link_codes::refusal(x),
         Ok(()) => starts_it(
             words, halves, bytes, clock, record, policy, reject, outbound, queue,

@@ -86,7 +86,7 @@ fn taken(s: SessionState, outbound: &mut [u8], record: Record) -> SessionState
 
 // ---- the handoff
 
-// Tests stand one a line, each with its return, where names are bound or calls are made between them: `&&` over all of them would read no plainer.
+// No derive: the two sides are of different types.
 fn same_handoff(h: TerminalHandoff, given: Given) -> bool
     requires { h.len ≤ length h.body }
     ensures { result ≡ same_handoff (held_in h) (lent_handoff given.entry) }
@@ -133,7 +133,7 @@ pub fn size_of(given: Option<Given>) -> usize
 }
 
 // The handoff, with a copy of its body.
-fn handed(given: Option<Given>) -> TerminalHandoff
+pub fn handed(given: Option<Given>) -> TerminalHandoff
     requires { handoff_size (given_if given) ≤ 4096 }
     ensures { Handed (given_if given.entry) result }
 {

@@ -1,6 +1,6 @@
 -- The session and the stores that a start leaves, and its promise. Assumes nothing.
-use Rattle.std.specs.Prelude.{if◌then◌else◌, Err}
-use mathlib.Core.Path.{◌≡◌, refl, sym, ap, ◌∙◌}
+use Rattle.std.specs.Prelude.{if◌then◌else◌, Result, Ok, Err}
+use mathlib.Core.Path.{◌≡◌, refl, sym, ap, ◌∙◌, subst}
 use mathlib.Core.Bool.{Bool, true, false, ◌||◌}
 use mathlib.Core.List.{List, [], ◌++◌, map, append-nil}
 use Prim.Native.Nat.{ℕ, ◌+◌, ◌-◌, ◌≤◌, ◌<◌}
@@ -32,7 +32,7 @@ use Rattle.session.proofs.Promises.{exit_cong}
 use Rattle.session.specs.Promise.{lent}
 use Rattle.starts.specs.declared.Reliable as Code
 use Rattle.starts.specs.Started.{messages_of, short_record, begins, start_promise, Started}
-use Rattle.starts.specs.Records.{reliable_of, Recorded, Rejecting, Begun, verdict_of, NotStarted}
+use Rattle.starts.specs.Records.{reliable_of, Recorded, Rejecting, Begun, verdict_of, Judged, NotGood, FoundStart, NotStarted}
 use Rattle.starts.proofs.Messages.{Long, long_record, length-messages, packed-messages, recorded-messages, recorded-unacked}
 use Rattle.starts.proofs.Checks.{Good}
 
@@ -156,3 +156,28 @@ module _ (c : Code.Reliable) (ns ks : List ℕ) (b : Bytes) (policy : Policy) (r
               → (if t || s then begins (unstarted ShortBuffer) (lent l d o q) else begins z (lent l d o q))
               ≡ begins (started (new (reliable_of c ns ks b) policy reject)) (lent l d o q)
           by_start t s z e f g = rw (e, f, g)
+
+-- ---- the tests
+
+module _ (x : Code.Reliable) (ns ks : List ℕ) (bodies : Bytes) (policy : Policy) (reject : Bytes) {n m : ℕ} where
+  pub short-outbound : n < 65536 → NotGood x ns ks bodies policy reject n m ShortBuffer
+  short-outbound h = record { call = λ o q eo eq r t. outbound-short x ns ks bodies policy reject o q r (omega (arith, eo)) t }
+
+  module _ (lo : 65536 ≤ n) where
+    pub short-queue : m < 32768 → NotGood x ns ks bodies policy reject n m ShortBuffer
+    short-queue h = record { call = λ o q eo eq r t. queue-short x ns ks bodies policy reject o q (omega (arith, eo)) r (omega (arith, eq)) t }
+
+    pub judged : 32768 ≤ m → {v : Result (Unit {0}) Refusal} → v ≡ verdict_of (short_record ns ks bodies) (start (reliable_of x ns ks bodies) policy reject)
+        → FoundStart x ns ks bodies policy reject n m v
+    judged lq {v = Ok u} e = record { outbound = lo; queue = lq; good = sym e }
+    judged lq {v = Err z} e =
+        record { call = λ o q eo eq r t. record_refused x ns ks bodies policy reject o q (omega (arith, eo)) (omega (arith, eq)) r z e t }
+
+-- what the tests found, by their stop
+module _ (x : Code.Reliable) (ns ks : List ℕ) (bodies : Bytes) (policy : Policy) (reject : Bytes) {n m : ℕ} {stop : Result (Unit {0}) Refusal}
+    (f : FoundStart x ns ks bodies policy reject n m stop) where
+  pub away : (z : Refusal) → stop ≡ Err z → NotGood x ns ks bodies policy reject n m z
+  away z e = subst (λ (s : Result (Unit {0}) Refusal). FoundStart x ns ks bodies policy reject n m s) e f
+
+  pub goes : stop ≡ Ok tt → Judged x ns ks bodies policy reject n m
+  goes e = subst (λ (s : Result (Unit {0}) Refusal). FoundStart x ns ks bodies policy reject n m s) e f

@@ -5,7 +5,7 @@ use Rattle.rules.specs.declared.Policy.{Policy}
 use Rattle.rules.specs.declared.Refusal.{Refusal}
 use Rattle.rules.specs.declared.Refusal.TheVariants.{ShortBuffer}
 use Rattle.rules.specs.Lists.{Bytes, total, itself}
-use Rattle.rules.specs.Start.{Reliable, Start, started, unstarted, good_messages, good_record, new}
+use Rattle.rules.specs.Start.{Reliable, Start, started, unstarted, start, good_messages, good_record, new}
 use Rattle.outbox.specs.declared.Unacked.{Unacked}
 use Rattle.outbox.specs.declared.Outbox.{Outbox}
 use Rattle.outbox.specs.View.{used_u}
@@ -15,7 +15,7 @@ use Rattle.peer_session.specs.View.{held, encode, reject_of}
 use Rattle.peer_session.specs.New.{nothing}
 use Rattle.session.specs.declared.Returned.{Returned}
 use Rattle.starts.specs.declared.Reliable as Code
-use Rattle.starts.specs.Started.{messages_of, short_record}
+use Rattle.starts.specs.Started.{messages_of, short_record, Started}
 
 -- the rule book's record
 abbrev pub reliable_of : Code.Reliable → List ℕ → List ℕ → Bytes → Reliable
@@ -79,3 +79,18 @@ pub record NotStarted (x : Refusal) (r : Returned) : Type 0 where
   pub session : held r.session ≡ nothing
   pub answer : r.answer ≡ Refused x
   pub events : r.events ≡ 0
+
+-- ---- the tests in their order: the stores' lengths, and the record with what else a start takes
+
+module _ (x : Code.Reliable) (ns ks : List ℕ) (bodies : Bytes) (policy : Policy) (reject : Bytes) (n m : ℕ) where
+  pub record Judged : Type 0 where
+    pub outbound : 65536 ≤ n
+    pub queue : 32768 ≤ m
+    pub good : verdict_of (short_record ns ks bodies) (start (reliable_of x ns ks bodies) policy reject) ≡ Ok tt
+
+  pub record NotGood (z : Refusal) : Type 0 where
+    pub call : (o q : Bytes) → length o ≡ n → length q ≡ m → (r : Returned) → NotStarted z r → Started x ns ks bodies policy reject o q r o q
+
+  abbrev pub FoundStart : Result (Unit {0}) Refusal → Type 0
+  FoundStart (Ok tt) = Judged
+  FoundStart (Err z) = NotGood z

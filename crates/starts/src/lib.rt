@@ -8,7 +8,7 @@ ghost use Rattle.rules.specs.Buffers.{filled};
 ghost use Rattle.rules.specs.Start.{policy_of, link_class};
 ghost use Rattle.session.specs.Promise.{option_of};
 ghost use Rattle.starts.specs.Started.{short_record, Started};
-ghost use Rattle.starts.specs.Records.{reliable_of, under, GoodMessages, GoodRecord, Fitting, Recorded, Rejecting, Beginning, Begun, verdict_of, NotStarted};
+ghost use Rattle.starts.specs.Records.{reliable_of, under, GoodMessages, GoodRecord, Fitting, Recorded, Rejecting, Beginning, Begun, verdict_of, FoundStart, NotStarted};
 
 use outbox::{Outbox, Unacked};
 use peer_session::{RejectBody, SessionState};
@@ -209,6 +209,25 @@ pub fn judge(record: Record, policy: Policy, reject: &[u8]) -> Result<(), Refusa
     Ok(())
 }
 
+// The tests of a start, in their order. Not by `session::enters`: there is no session yet.
+pub fn enters(
+    outbound: usize,
+    queue: usize,
+    record: Record,
+    policy: Policy,
+    reject: &[u8],
+) -> Result<(), Refusal>
+    ensures { FoundStart «record».entry.reliable «record».entry.numbers.now «record».entry.lengths.now «record».entry.bodies.now policy reject.now outbound queue result }
+{
+    if outbound < SessionState::OUTBOUND_BYTES {
+        return Err(Refusal::ShortBuffer);
+    }
+    if queue < SessionState::QUEUE_BYTES {
+        return Err(Refusal::ShortBuffer);
+    }
+    judge(record, policy, reject)
+}
+
 // The session of a record that is good.
 fn begun(record: Record, policy: Policy, reject: &[u8]) -> SessionState
     requires { Beginning «record».reliable «record».numbers.now «record».lengths.now reject.now }
@@ -247,14 +266,7 @@ pub fn start(
 ) -> Returned
     ensures { Started «record».entry.reliable «record».entry.numbers.now «record».entry.lengths.now «record».entry.bodies.now policy reject.now outbound.old queue.old result outbound.new queue.new }
 {
-    // Not by `session::enters`: there is no session yet.
-    if outbound.len() < SessionState::OUTBOUND_BYTES {
-        return refused(Refusal::ShortBuffer);
-    }
-    if queue.len() < SessionState::QUEUE_BYTES {
-        return refused(Refusal::ShortBuffer);
-    }
-    if let Err(x) = judge(record, policy, reject) {
+    if let Err(x) = enters(outbound.len(), queue.len(), record, policy, reject) {
         return refused(x);
     }
     let session = begun(record, policy, reject);

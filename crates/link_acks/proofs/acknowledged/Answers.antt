@@ -1,17 +1,16 @@
-use Rattle.link_acks.proofs.Acks.{messages-exact, went}
+use Rattle.link_acks.proofs.Acks.{messages-exact, low-kept, went}
 use Rattle.acks.proofs.Steps.{asked-few}
-use Rattle.link_sending.proofs.Sends.{low_generation}
 use native.Mathlib.Omega.{arith}
 use Rattle.link_acks.proofs.acknowledged.Goals as goal
 
 pub acknowledge-requires : goal.acknowledge-requires
 acknowledge-requires c = messages-exact c.args.words.now c.args.halves.now c.args.bytes.now c.args.clock.now c.args.list.now c.args.outbound.now c.args.number c.requires.0
 
-pub raised-requires : goal.raised-requires
-raised-requires c = low_generation c.args.words.now c.args.halves.now c.args.bytes.now c.args.clock.now c.requires.0
+pub acknowledged_clock-after-requires : goal.acknowledged_clock-after-requires
+acknowledged_clock-after-requires c = low-kept c.args.words.now c.args.halves.now c.args.bytes.now c.args.clock.now c.args.list.now c.args.outbound.now c.args.number c.requires.0 c.acknowledge.ensures c.clock_in-k.ensures
 
 pub notify_acknowledged-m-requires : goal.notify_acknowledged-m-requires
-notify_acknowledged-m-requires c = omega (arith, c.requires.0.list, asked-few c.clock_in-k.result c.request-n.ensures)
+notify_acknowledged-m-requires c = omega (arith, c.requires.0.list, asked-few c.acknowledged_clock-after.result c.request-n.ensures)
 
 pub returns : goal.returns
-returns c = λ q lq. went c.args.words.now c.args.halves.now c.args.bytes.now c.args.clock.now c.args.list.now c.args.outbound.now c.args.number c.requires.0 c.acknowledge.ensures c.raised.result c.handoff_flag-flag.result c.raised.ensures c.handoff_flag-flag.ensures (omega arith) c.requires.1 c.clock_in-k.ensures c.request-n.ensures c.complete.ensures c.notify_acknowledged-m.ensures c.flag.ensures q lq
+returns c = λ q lq. went c.args.words.now c.args.halves.now c.args.bytes.now c.args.clock.now c.args.list.now c.args.outbound.now c.args.number c.requires.0 c.acknowledge.ensures c.handoff_flag-flag.result c.handoff_flag-flag.ensures (omega arith) c.requires.1 c.clock_in-k.ensures c.acknowledged_clock-after.ensures c.request-n.ensures c.complete.ensures c.notify_acknowledged-m.ensures c.flag.ensures q lq

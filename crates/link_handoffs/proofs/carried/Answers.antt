@@ -11,7 +11,7 @@ pub part-requires : goal.part-requires
 part-requires c = part-fits (at c.args.words.now 9) (outbox_in c.args.words.now c.args.halves.now c.args.bytes.now) c.args.outbound.now (c.locate.ensures c.args.bytes.now) c.requires.exact c.in-Some.place c.in-Some.is
 
 pub returns-in-Some : goal.returns-in-Some
-returns-in-Some c = carried_here c.args.words.now c.args.halves.now c.args.bytes.now c.args.outbound.now c.requires c.locate.ensures c.part-held.ensures c.in-Some.place c.in-Some.is c.part.ensures c.same_bytes.ensures
+returns-in-Some c = carried_here c.args.words.now c.args.halves.now c.args.bytes.now c.args.outbound.now c.requires c.locate.ensures c.handoff_body-held.ensures c.in-Some.place c.in-Some.is c.part.ensures c.same_bytes.ensures
 
 pub returns-in-None : goal.returns-in-None
-returns-in-None c = carried-none c.args.words.now c.args.halves.now c.args.bytes.now c.args.outbound.now c.requires c.locate.ensures c.part-held.ensures c.in-None.is
+returns-in-None c = carried-none c.args.words.now c.args.halves.now c.args.bytes.now c.args.outbound.now c.requires c.locate.ensures c.handoff_body-held.ensures c.in-None.is

@@ -14,10 +14,10 @@ pub returns-then-words-given-2 : goal.returns-then-words-given-2
 returns-then-words-given-2 c = other-number (held_in (handoff_in c.args.words.now c.args.bytes.now)) (lent_handoff c.args.given) c.if-words-given.false c.if-words-given-2.true
 
 pub returns-then-not-same_bytes : goal.returns-then-not-same_bytes
-returns-then-not-same_bytes c = other-body (held_in (handoff_in c.args.words.now c.args.bytes.now)) (lent_handoff c.args.given) c.if-words-given.false c.if-words-given-2.false (body-told _ c.args.bytes.now c.args.given.body.now c.requires c.part-held.ensures c.same_bytes.ensures ∙ c.if-not-same_bytes.true)
+returns-then-not-same_bytes c = other-body (held_in (handoff_in c.args.words.now c.args.bytes.now)) (lent_handoff c.args.given) c.if-words-given.false c.if-words-given-2.false (body-told c.args.given.body.now c.handoff_body.ensures c.same_bytes.ensures ∙ c.if-not-same_bytes.true)
 
 pub returns-then-bytes-given : goal.returns-then-bytes-given
-returns-then-bytes-given c = other-sent (held_in (handoff_in c.args.words.now c.args.bytes.now)) (lent_handoff c.args.given) c.if-words-given.false c.if-words-given-2.false (body-told _ c.args.bytes.now c.args.given.body.now c.requires c.part-held.ensures c.same_bytes.ensures ∙ c.if-not-same_bytes.false) (not-true _ c.if-bytes-given.true)
+returns-then-bytes-given c = other-sent (held_in (handoff_in c.args.words.now c.args.bytes.now)) (lent_handoff c.args.given) c.if-words-given.false c.if-words-given-2.false (body-told c.args.given.body.now c.handoff_body.ensures c.same_bytes.ensures ∙ c.if-not-same_bytes.false) (not-true _ c.if-bytes-given.true)
 
 pub returns : goal.returns
-returns c = by_acknowledged (held_in (handoff_in c.args.words.now c.args.bytes.now)) (lent_handoff c.args.given) c.if-words-given.false c.if-words-given-2.false (body-told _ c.args.bytes.now c.args.given.body.now c.requires c.part-held.ensures c.same_bytes.ensures ∙ c.if-not-same_bytes.false) (not-false _ c.if-bytes-given.false)
+returns c = by_acknowledged (held_in (handoff_in c.args.words.now c.args.bytes.now)) (lent_handoff c.args.given) c.if-words-given.false c.if-words-given-2.false (body-told c.args.given.body.now c.handoff_body.ensures c.same_bytes.ensures ∙ c.if-not-same_bytes.false) (not-false _ c.if-bytes-given.false)

@@ -19,7 +19,7 @@ pub overflow_add-halves : goal.overflow_add-halves
 overflow_add-halves c = omega (arith, low_half c.args.words.now c.args.halves.now c.args.bytes.now c.args.clock.now c.requires.checked c.requires.low)
 
 pub returns-in-Ok : goal.returns-in-Ok
-returns-in-Ok c = went c.args.words.now c.args.halves.now c.args.bytes.now c.args.clock.now c.args.list.now c.args.outbound.now c.requires c.reject_in-j.ensures (omega arith) c.in-Ok.ensures c.clock_in-k.ensures c.request-n.ensures c.done.ensures
+returns-in-Ok c = went c.args.words.now c.args.halves.now c.args.bytes.now c.args.clock.now c.args.list.now c.args.outbound.now c.requires c.reject_in-j.ensures (omega arith) c.in-Ok.ensures c.done.ensures
 
 pub returns-in-Err : goal.returns-in-Err
 returns-in-Err c = stopped c.args.words.now c.args.halves.now c.args.bytes.now c.args.clock.now c.args.list.now c.args.outbound.now c.requires c.reject_in-j.ensures c.in-Err.ensures c.refusal.ensures

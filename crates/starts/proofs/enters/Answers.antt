@@ -1,5 +1,5 @@
-use Rattle.link_starts.proofs.Starts.{short-outbound, short-queue, judged}
-use Rattle.link_starts.proofs.judge.Goals as goal
+use Rattle.starts.proofs.Begins.{short-outbound, short-queue, judged}
+use Rattle.starts.proofs.enters.Goals as goal
 
 pub returns-then-outbound-lt-OUTBOUND_BYTES : goal.returns-then-outbound-lt-OUTBOUND_BYTES
 returns-then-outbound-lt-OUTBOUND_BYTES c = short-outbound c.args.«record».reliable c.args.«record».numbers.now c.args.«record».lengths.now c.args.«record».bodies.now c.args.policy c.args.reject.now c.if-outbound-lt-OUTBOUND_BYTES.true
