@@ -1,6 +1,6 @@
 use Prim.Native.Nat.{◌≤◌, ◌<◌, ◌^◌}
 use native.Mathlib.Omega.{arith}
-use mathlib.Core.Path.{ap, ◌∙◌}
+use mathlib.Core.Path.{◌≡◌, ap, ◌∙◌}
 use lib.Dec.{ltb}
 use lib.ListN.{length}
 use Rattle.std.specs.List.{sum_by}
@@ -18,9 +18,10 @@ sum-found-requires-clause-fits c =
     let room : 272 ≤ length w = omega arith in
     let numbers = run n w c.requires room in
     let one = hit n w c.requires room in
+    let lent : c.iter.result.rest.now ≡ numbers = c.iter.ensures.rest in
     let fits : sum_by one numbers < 2 ^ 64 = omega (arith, hits_few n w c.requires room, total-sum one numbers) in
     fits_by_from_yields_list one numbers c.map.result _
-    (YieldsList-from_map _ one (YieldsList-from_slice numbers (cc)) c.map.ensures.closure (λ x r q k. search (rules, tests))) fits
+    (YieldsList-from_map _ one (YieldsList-from_slice numbers (cc (lent))) c.map.ensures.closure (λ x r q k. search (rules, tests))) fits
 
 pub returns : goal.returns
 returns c = λ h b o.
@@ -29,8 +30,9 @@ returns c = λ h b o.
     let room : 272 ≤ length w = omega arith in
     let numbers = run n w c.requires room in
     let one = hit n w c.requires room in
+    let lent : c.iter.result.rest.now ≡ numbers = c.iter.ensures.rest in
     ap (ltb 0)
     (sum_by_from_yields_List one numbers c.map.result _ c.sum-found.ensures.ran
-    (YieldsList-from_map _ one (YieldsList-from_slice numbers (cc)) c.map.ensures.closure (λ x r q k. search (rules, tests)))
+    (YieldsList-from_map _ one (YieldsList-from_slice numbers (cc (lent))) c.map.ensures.closure (λ x r q k. search (rules, tests)))
     ∙ total-sum one numbers)
     ∙ hits_any n w c.requires room h b o
