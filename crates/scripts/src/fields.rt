@@ -1,7 +1,7 @@
 // The fields of a line, with one space between two of them.
-ghost use Rattle.std.specs.Prelude.{◌≡◌, ◌+◌, ◌<◌, ◌&&◌, Some, None, ltb, eqb, length, take, drop, is_some, MatchOption, IfSome, OnSome};
+ghost use Rattle.std.specs.Prelude.{◌≡◌, ◌+◌, ◌≤◌, ◌<◌, ◌&&◌, Some, None, ltb, eqb, length, take, drop, is_some, MatchOption, IfSome, OnSome};
 ghost use Rattle.rules.specs.Answers.{flag_value};
-ghost use Rattle.text.specs.Fields.{has_word, place_of};
+ghost use Rattle.text.specs.Fields.{has_word, place_of, NextField};
 ghost use Rattle.text.specs.Filled.{Filling};
 ghost use Rattle.text.specs.Numbers.{decimal_of, hex16_of};
 ghost use Rattle.text.specs.Taken.{after};
@@ -42,22 +42,28 @@ impl<'a> Fields<'a> {
         Some(())
     }
 
+    // The next field, right or wrong: it is the last one read from now on.
+    fn next_field(&mut self) -> Option<&'a [u8]>
+        ensures field { MatchOption result (length self.old.line.now ≤ self.old.end) (λ f. NextField self.old.line.now self.old.end f.now self.new.end) }
+        ensures line { self.new.line ≡ self.old.line }
+    {
+        let (field, end) = text::next_field(self.line, self.end)?;
+        self.end = end;
+        Some(field)
+    }
+
     pub fn decimal(&mut self) -> Option<u64>
         ensures read { MatchOption result (None ≡ after decimal_of self.old.line.now self.old.end) (λ n. Some (n, self.new.end) ≡ after decimal_of self.old.line.now self.old.end) }
         ensures line { self.new.line ≡ self.old.line }
     {
-        let (n, end) = text::decimal_after(self.line, self.end)?;
-        self.end = end;
-        Some(n)
+        text::decimal(self.next_field()?)
     }
 
     pub fn hex16(&mut self) -> Option<u64>
         ensures read { MatchOption result (None ≡ after hex16_of self.old.line.now self.old.end) (λ n. Some (n, self.new.end) ≡ after hex16_of self.old.line.now self.old.end) }
         ensures line { self.new.line ≡ self.old.line }
     {
-        let (n, end) = text::hex16_after(self.line, self.end)?;
-        self.end = end;
-        Some(n)
+        text::hex16(self.next_field()?)
     }
 
     // Reads bytes in hex into the front of out, and returns how many.
@@ -65,9 +71,7 @@ impl<'a> Fields<'a> {
         ensures read { MatchOption result (Filling self.old.line.now self.old.end out.old None out.new) (λ n. Filling self.old.line.now self.old.end out.old (Some (n, self.new.end)) out.new) }
         ensures line { self.new.line ≡ self.old.line }
     {
-        let (n, end) = text::hex_after(self.line, self.end, out)?;
-        self.end = end;
-        Some(n)
+        text::hex(self.next_field()?, out)
     }
 
     // 0 or 1.

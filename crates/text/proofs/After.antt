@@ -6,7 +6,7 @@ use Prim.Native.Nat.{ℕ, ◌+◌, ◌≤◌}
 use lib.Dec.{ltb}
 use lib.ListN.{length}
 use borrow.Author.Tests.{lt-ltb, le-ltb}
-use Rattle.std.specs.Prelude.{Option, None}
+use Rattle.std.specs.Prelude.{Option, Some, None, MatchOption}
 use Rattle.text.specs.Fields.{NextField, field_of}
 use Rattle.text.specs.Filled.{bytes_after, Filling}
 use Rattle.text.specs.Hex.{hex_of, fitting, count_of, Decoded}
@@ -40,3 +40,13 @@ module _ {s : List ℕ} {end : ℕ} {p : List ℕ} {e : ℕ} (f : NextField s en
             ∙ ap (taken_of (count_of (fitting (length out) (hex_of (field_of s (end + 1)))))) f.place);
         bytes = rw t d.bytes;
       }
+
+  -- what is read of a field, and where it ends then
+  pub after_read : (read : List ℕ → Option ℕ) (r : Option ℕ) → r ≡ read p → MatchOption r (None ≡ after read s end) (λ n. Some (n, e) ≡ after read s end)
+  after_read read None a = after_field read a
+  after_read read (Some n) a = after_field read a
+
+  pub filling_read : {out out' : List ℕ} (r : Option ℕ) → Decoded p out r out'
+      → MatchOption r (Filling s end out None out') (λ n. Filling s end out (Some (n, e)) out')
+  filling_read None a = filling_field a
+  filling_read (Some n) a = filling_field a

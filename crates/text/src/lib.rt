@@ -5,11 +5,9 @@ ghost use Rattle.std.specs.Prelude.{◌≡◌, true, [], ◌∷◌, ◌+◌, ◌
 ghost use Rattle.rules.specs.Lists.{all};
 ghost use Rattle.stores.specs.Placed.{placed};
 ghost use Rattle.text.specs.Fields.{Found, between, has_word, NextField, Grown, Gathered};
-ghost use Rattle.text.specs.Filled.{Filling};
 ghost use Rattle.text.specs.Hex.{pairs, is_dash, is_pairs, Decoded};
 ghost use Rattle.text.specs.Numbers.{digit_of, is_digit_byte, onward, number_of, decimal_of, hex16_of};
 ghost use Rattle.text.specs.Output.{glyph_of, hex_byte, Put};
-ghost use Rattle.text.specs.Taken.{after};
 
 // A line so far: its size, or one more than its buffer's where it is too long; and the index where the chunk goes on after the line's end, where the
 // chunk has it.
@@ -162,7 +160,7 @@ pub fn has_word(s: &[u8], w: &[u8]) -> bool
 
 // The field after the one that ends at index end, and the index where it ends itself: that of a space, or the line's length. There is none after the
 // line's last field.
-fn next_field(s: &[u8], end: usize) -> Option<(&[u8], usize)>
+pub fn next_field(s: &[u8], end: usize) -> Option<(&[u8], usize)>
     ensures { MatchOption result (length s.now ≤ end) (λ f. NextField s.now end f.0.now f.1) }
 {
     if s.len() <= end {
@@ -171,33 +169,6 @@ fn next_field(s: &[u8], end: usize) -> Option<(&[u8], usize)>
     let at = end + 1;
     let e = find(s, at, b' ');
     Some((&s[at..e], e))
-}
-
-// The functions .._after read the field after the one that ends at index end, and return what it says and the index where it ends. One for both kinds of
-// number would take a closure with its promise, in place of these three lines.
-pub fn decimal_after(s: &[u8], end: usize) -> Option<(u64, usize)>
-    ensures { result ≡ after decimal_of s.now end }
-{
-    let (field, e) = next_field(s, end)?;
-    let n = decimal(field)?;
-    Some((n, e))
-}
-
-pub fn hex16_after(s: &[u8], end: usize) -> Option<(u64, usize)>
-    ensures { result ≡ after hex16_of s.now end }
-{
-    let (field, e) = next_field(s, end)?;
-    let n = hex16(field)?;
-    Some((n, e))
-}
-
-// How many bytes the field has, and where it ends. Where the field is wrong or longer than out, out stays as it is.
-pub fn hex_after(s: &[u8], end: usize, out: &mut [u8]) -> Option<(usize, usize)>
-    ensures { Filling s.now end out.old result out.new }
-{
-    let (field, e) = next_field(s, end)?;
-    let n = hex(field, out)?;
-    Some((n, e))
 }
 
 // Puts part after the n bytes of a line. A line that line does not hold stays out, and has the size line.len() + 1: a number, since the size comes in
