@@ -1,9 +1,8 @@
 -- The steps of an ack on the parts of a session. Assumes nothing.
-use Rattle.std.specs.Prelude.{ℕ, ◌+◌, ◌-◌, ◌≤◌, ◌≡◌, Bool, true, false, ◌||◌, List, ltb, Float, length, Result, Ok, Err}
+use Rattle.std.specs.Prelude.{ℕ, ◌-◌, ◌≡◌, Bool, ◌||◌, List, ltb}
 use Rattle.rules.specs.declared.Answer.TheVariants.{Refused}
 use Rattle.rules.specs.declared.Refusal.TheVariants.{AckOutOfRange}
 use Rattle.rules.specs.Lists.{Bytes}
-use Rattle.session.specs.declared.Returned.{Returned}
 use Rattle.acks.specs.Steps.{OutOfRange}
 use Rattle.parts.specs.declared.LinkAnswer.{LinkAnswer}
 use Rattle.parts.specs.Codes.{answer_of}

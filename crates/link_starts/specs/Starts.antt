@@ -1,5 +1,5 @@
 -- The steps of a start on the parts of a session. Assumes nothing.
-use Rattle.std.specs.Prelude.{ℕ, ◌+◌, ◌≤◌, ◌<◌, ◌≡◌, List, [], ◌∷◌, length, take}
+use Rattle.std.specs.Prelude.{ℕ, ◌+◌, ◌<◌, ◌≡◌, List, [], ◌∷◌, length, take}
 use Rattle.rules.specs.declared.Policy.{Policy}
 use Rattle.rules.specs.Lists.{Bytes}
 use Rattle.starts.specs.declared.Reliable.{Reliable}
