@@ -1,9 +1,10 @@
 // A session as C lends it: 64-bit words, 32-bit halves, bytes, and the time of the last replay. Each number lies in the part of its width, at the index
 // that is named here; include/link.h and specs/Parts.antt repeat the indices.
 //
-// Each call has two forms, by value and in place (`link_*`): by value is the port that is compared with the Rust, in place is what C links, where a session's
-// arrays stay where they lie. Both have one promise by one rule book, and in place the laws of the calls by value are cited. In both a list and its count are two
-// parameters, as events::emit says. Counts are kept in words and halves: there and back it is `as`, since there is no `From` between these types and usize.
+// Each call has two forms, by value and in place (`link_*`): by value is the port that is compared with the Rust, in place is what C links, where a
+// session's arrays stay where they lie. Both have one promise by one rule book, and in place the laws of the calls by value are cited. In both a list and
+// its count are two parameters, as events::emit says. Counts are kept in words and halves: there and back it is `as`, since there is no `From` between
+// these types and usize.
 #![tactic(auto)]
 
 ghost use Rattle.std.specs.Prelude.{◌≡◌};
