@@ -1,5 +1,5 @@
 -- A test as a number. Assumes nothing.
-use Rattle.std.specs.Prelude.{◌≡◌, ◌≤◌, Bool, true, false, if◌then◌else◌}
+use Rattle.std.specs.Prelude.{◌≤◌, Bool, true, false}
 use Rattle.std.specs.Int.{from_bool}
 use native.Mathlib.Omega.{arith}
 
