@@ -79,7 +79,9 @@ module _ {t₀ : Turn} {w₀ h c : List ℕ} {i₀ : ℕ} {q : Bytes} {b₀ : Bo
         let y : (status : HostStatus) → status.available ≡ true
         → TurnsIn status t₀ w₀ h c i₀ q b₀ (reached t₀ (at w (16 + i)) (g + 1)) (set w (272 + k) (at w (16 + i))) (k + 1) (i + 1) (a + len) (books l' n' d' (b.at + len)) =
         λ s on.
-        subst (λ (m : ℕ). TurnsIn s t₀ w₀ h c i₀ q b₀ (reached t₀ (at w (16 + i)) (g + 1)) (set w (272 + k) (at w (16 + i))) (k + 1) (i + 1) (a + len) (books l' n' d' (b.at + m)))
+        subst
+        (λ (m : ℕ). TurnsIn s t₀ w₀ h c i₀ q b₀ (reached t₀ (at w (16 + i)) (g + 1)) (set w (272 + k) (at w (16 + i))) (k + 1) (i + 1) (a + len)
+        (books l' n' d' (b.at + m)))
         (body_long e ex)
         (more_in (v.turns s on) l is e (raw_available s t on v.mode) (raw_deliverable (at w (16 + i)) (at c (512 + i)) t v.mode) ex
         (o.delivered t (at c (512 + i)) v.mode refl ep) ll ld) in

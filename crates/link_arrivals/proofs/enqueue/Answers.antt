@@ -17,7 +17,8 @@ fail-requires c =
 
 pub returns-then-words-count : goal.returns-then-words-count
 returns-then-words-count c =
-    too_many c.args.words.now c.args.halves.now c.args.bytes.now c.args.clock.now c.requires c.holds.ensures c.if-not-holds.true c.if-words-count.true c.fail.ensures
+    too_many c.args.words.now c.args.halves.now c.args.bytes.now c.args.clock.now c.requires
+    c.holds.ensures c.if-not-holds.true c.if-words-count.true c.fail.ensures
 
 pub start-end-requires : goal.start-end-requires
 start-end-requires c =
@@ -33,30 +34,38 @@ fail-requires-then-words-end c =
 
 pub returns-then-words-end : goal.returns-then-words-end
 returns-then-words-end c =
-    too_long c.args.words.now c.args.halves.now c.args.bytes.now c.args.clock.now c.requires c.holds.ensures c.if-not-holds.true c.if-words-count.false c.start-end.ensures c.if-words-end.true c.fail-then-words-end.ensures
+    too_long c.args.words.now c.args.halves.now c.args.bytes.now c.args.clock.now c.requires
+    c.holds.ensures c.if-not-holds.true c.if-words-count.false c.start-end.ensures c.if-words-end.true c.fail-then-words-end.ensures
 
 pub insert-requires : goal.insert-requires
 insert-requires c =
-    may_insert c.args.words.now c.args.halves.now c.args.bytes.now c.args.clock.now c.requires c.holds.ensures c.if-not-holds.true c.if-words-count.false c.start-end.ensures c.if-words-end.false
+    may_insert c.args.words.now c.args.halves.now c.args.bytes.now c.args.clock.now c.requires
+    c.holds.ensures c.if-not-holds.true c.if-words-count.false c.start-end.ensures c.if-words-end.false
 
 pub carry-requires : goal.carry-requires
 carry-requires c =
     elim c.if-not-holds.branch [
       | then-not-holds+else-words-count+else-words-end w ↦
           rw (w.words-is, w.halves-is, w.bytes-is, w.queue-is)
-          (carrying_joined c.args.words.now c.args.halves.now c.args.bytes.now c.args.clock.now c.requires c.holds.ensures w.if-not-holds.true w.if-words-count.false w.start-end.ensures w.if-words-end.false (omega arith) (omega arith) w.insert.ensures c.clock_in-c.ensures c.request.ensures c.request.auto.list)
+          (carrying_joined c.args.words.now c.args.halves.now c.args.bytes.now c.args.clock.now c.requires
+          c.holds.ensures w.if-not-holds.true w.if-words-count.false w.start-end.ensures w.if-words-end.false (omega arith) (omega arith)
+          w.insert.ensures c.clock_in-c.ensures c.request.ensures c.request.auto.list)
       | else-not-holds w ↦
           rw (w.words-is, w.halves-is, w.bytes-is, w.queue-is)
-          (carrying_kept c.args.words.now c.args.halves.now c.args.bytes.now c.args.clock.now c.requires c.clock_in-c.ensures c.request.ensures c.request.auto.list)
+          (carrying_kept c.args.words.now c.args.halves.now c.args.bytes.now c.args.clock.now c.requires
+          c.clock_in-c.ensures c.request.ensures c.request.auto.list)
     ]
 
 pub returns : goal.returns
 returns c =
     elim c.if-not-holds.branch [
       | then-not-holds+else-words-count+else-words-end w ↦
-          joined c.args.words.now c.args.halves.now c.args.bytes.now c.args.clock.now c.requires c.holds.ensures w.if-not-holds.true w.if-words-count.false w.start-end.ensures w.if-words-end.false (omega arith) (omega arith) w.insert.ensures c.clock_in-c.ensures c.request.ensures
+          joined c.args.words.now c.args.halves.now c.args.bytes.now c.args.clock.now c.requires
+          c.holds.ensures w.if-not-holds.true w.if-words-count.false w.start-end.ensures w.if-words-end.false (omega arith) (omega arith)
+          w.insert.ensures c.clock_in-c.ensures c.request.ensures
           (rw (w.words-is, w.halves-is, w.bytes-is, w.queue-is) at c.carry.ensures)
       | else-not-holds w ↦
-          queued_already c.args.words.now c.args.halves.now c.args.bytes.now c.args.clock.now c.requires c.clock_in-c.ensures c.request.ensures c.holds.ensures w.if-not-holds.false
+          queued_already c.args.words.now c.args.halves.now c.args.bytes.now c.args.clock.now c.requires
+          c.clock_in-c.ensures c.request.ensures c.holds.ensures w.if-not-holds.false
           (rw (w.words-is, w.halves-is, w.bytes-is, w.queue-is) at c.carry.ensures)
     ]

@@ -28,7 +28,8 @@ returns-in-4-to-5 c = c.replayed.ensures c.args.event (omega arith) (omega arith
 -- no event comes here: the entry refuses a number that is none
 pub returns-in_default-event : goal.returns-in_default-event
 returns-in_default-event c =
-    let n = known_one c.args.event c.args.time c.args.force c.try_from.result c.try_from.ensures (sym c.is_err-wrong.ensures.value ∙ c.in_default.ensures.passed.known) in
+    let z = sym c.is_err-wrong.ensures.value ∙ c.in_default.ensures.passed.known in
+    let n = known_one c.args.event c.args.time c.args.force c.try_from.result c.try_from.ensures z in
     elim c.in_default-event.branch [
       | in_default-event-via-then-event-lt1 w ↦ absurd (omega (arith, n.0))
       | in_default-event-via-else-event-lt1+else-event-lt4+else-event-lt6 w ↦ absurd (omega (arith, n.1))
