@@ -294,8 +294,8 @@ fn sweep(words: &mut Words, halves: &mut Halves, bytes: &mut Bytes, store: &mut 
 
 // ---- an ack that lets the oldest messages go
 
-// 1 where an acknowledgement leaves a record, else 0: limit is the ack, as far as 32 bits hold it. No twin of keeps, which gets the whole ack: this one is asked
-// up to twice of each record, and compares numbers in the 32 bits that they have.
+// 1 where an acknowledgement leaves a record, else 0: limit is the ack, as far as 32 bits hold it. No twin of keeps, which gets the whole ack: tried here, and
+// an ack beside 256 messages took 244 ns in place of 179, since LLVM's vectors compare four numbers of 32 bits at once, but two of 64.
 fn stay_of(number: u32, pending: u8, unsent: u8, limit: u32) -> u32
     ensures { (ack : ℕ) → limit ≡ low ack → result ≡ (if ltb ack number || flag pending || flag unsent then 1 else 0) }
 {
