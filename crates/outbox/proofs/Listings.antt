@@ -136,7 +136,9 @@ listing_none p x l n s full room =
 
 module _ {p : R.Unacked → Bool} {x : Outbox} {l₀ : List ℕ} {n : ℕ} {l : List ℕ} {k at i : ℕ} (g : Listing p x l₀ n l k at i) where
   module _ (h : i < x.count) (q : Unacked → Bool) (agrees : (u : Unacked) (b : Bytes) → p (unacked u b) ≡ q u) where
-    listing-words : (l' : List ℕ) (k' : ℕ) → EmittedIf (q (get_or x.records i blank_u)) 8 (get_or x.records i blank_u).number at (get_or x.records i blank_u).len l k l' k' → (o : Bytes) → end_u x ≤ length o
+    listing-words : (l' : List ℕ) (k' : ℕ)
+        → EmittedIf (q (get_or x.records i blank_u)) 8 (get_or x.records i blank_u).number at (get_or x.records i blank_u).len l k l' k'
+        → (o : Bytes) → end_u x ≤ length o
         → ListedIn (unacked_of x o) (map data_frame (kept p (take (i + 1) (unacked_of x o)))) l₀ n l' k'
     unfolding unacked_of start_of
     listing-words l' k' s o e =
@@ -165,7 +167,8 @@ module _ {p : R.Unacked → Bool} {x : Outbox} {l₀ : List ℕ} {n : ℕ} {l : 
         subst⁻¹ (λ (es : List Event). ListedIn ms es l₀ n l' k') evs
         (listed_then (omega (arith, g.room)) (g.words o e) (sent-one ms (q u) u b at l l' k k' s st lb))
 
-    pub listing_more : (l' : List ℕ) (k' : ℕ) → length l' ≡ length l → EmittedIf (q (get_or x.records i blank_u)) 8 (get_or x.records i blank_u).number at (get_or x.records i blank_u).len l k l' k'
+    pub listing_more : (l' : List ℕ) (k' : ℕ) → length l' ≡ length l
+        → EmittedIf (q (get_or x.records i blank_u)) 8 (get_or x.records i blank_u).number at (get_or x.records i blank_u).len l k l' k'
         → Listing p x l₀ n l' k' (at + (get_or x.records i blank_u).len) (i + 1)
     listing_more l' k' el s =
         record {
@@ -180,7 +183,8 @@ module _ {p : R.Unacked → Bool} {x : Outbox} {l₀ : List ℕ} {n : ℕ} {l : 
         }
 
     -- the same, of a record and a test that a call answered
-    pub listing-next : (u : Unacked) → u ≡ get_or x.records i blank_u → (t : Bool) → t ≡ q u → (l' : List ℕ) (k' : ℕ) → length l' ≡ length l → EmittedIf t 8 u.number at u.len l k l' k'
+    pub listing-next : (u : Unacked) → u ≡ get_or x.records i blank_u → (t : Bool) → t ≡ q u → (l' : List ℕ) (k' : ℕ) → length l' ≡ length l
+        → EmittedIf t 8 u.number at u.len l k l' k'
         → Listing p x l₀ n l' k' (at + u.len) (i + 1)
     listing-next u eu t et l' k' el s =
         let s1 : EmittedIf (q u) 8 u.number at u.len l k l' k' = subst (λ (b : Bool). EmittedIf b 8 u.number at u.len l k l' k') et s in
