@@ -8,6 +8,7 @@ ghost use Rattle.session.specs.Promise.{terms_in_session};
 ghost use Rattle.parts.specs.Parts.{parts, opened_of};
 ghost use Rattle.link_c.specs.Forms.{terms_of};
 
+use link_setup::NO_TERMS;
 use parts::{Bytes, Halves, Words};
 use rules::Terms;
 
@@ -29,10 +30,7 @@ fn terms_of(t: Option<Terms>) -> LinkTerms
             waiting: true,
         },
         None => LinkTerms {
-            terms: Terms {
-                number: 0,
-                initiator: false,
-            },
+            terms: NO_TERMS,
             waiting: false,
         },
     }

@@ -146,10 +146,8 @@ fn hand_off(
     ensures { (restoring : Bool) → ComesIn (commanding restoring (some (lent_command c.entry))) (parts words.old halves.old bytes.old clock.now) (parts words.new halves.new bytes.new clock.now) list.old outbound.old result list.new outbound.new }
 {
     let number = words[parts::NEXT];
-    let generation = halves[parts::GENERATION];
-    match link_sending::allocate(words, halves, bytes, outbound, c.body) {
+    match link_sending::join(words, halves, bytes, outbound, c.body) {
         Ok(()) => {
-            halves[parts::GENERATION] = generation + 1;
             let given = Given {
                 id: c.id,
                 number,

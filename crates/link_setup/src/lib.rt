@@ -108,10 +108,8 @@ fn propose(
     requires { (Accepting (parts words.old halves.old bytes.old clock.now) terms (length outbound.old)) × (terms.initiator ≡ true) }
     ensures { Driven (parts words.old halves.old bytes.old clock.now) (parts words.new halves.new bytes.new clock.now) result (λ s y. CalledWithOutboundAlone (accepts terms body.now) s outbound.old y outbound.new) }
 {
-    let generation = halves[parts::GENERATION];
-    match link_sending::allocate(words, halves, bytes, outbound, body) {
+    match link_sending::join(words, halves, bytes, outbound, body) {
         Ok(()) => {
-            halves[parts::GENERATION] = generation + 1;
             stage(
                 halves,
                 bytes,
@@ -183,13 +181,11 @@ fn send_reject(
     requires { Ready (parts words.old halves.old bytes.old clock.now) (length list.old) (length outbound.old) }
     ensures { Driven (parts words.old halves.old bytes.old clock.now) (parts words.new halves.new bytes.new clock.now) result (λ s y. CalledWithOutbound rejects s list.old outbound.old y list.new outbound.new) }
 {
-    let generation = halves[parts::GENERATION];
     let j = link_codes::reject_in(words, bytes);
     let body = j.bytes;
     let len = j.len;
-    match link_sending::allocate(words, halves, bytes, outbound, &body[..len]) {
+    match link_sending::join(words, halves, bytes, outbound, &body[..len]) {
         Ok(()) => {
-            halves[parts::GENERATION] = generation + 1;
             bytes[parts::DISPOSITION] = Disposition::OutboundReject as u8;
             done(halves, clock, list)
         }
