@@ -30,7 +30,7 @@ fn list_if(goes: bool, list: &mut [u64], n: usize, code: u64, number: u64) -> us
     n
 }
 
-// `==`, said in the rule book's words.
+// `==` under a name of its own: proofs cite its clause.
 pub fn is_raw(mode: ReceiveMode) -> bool
     ensures { result ≡ is_raw mode }
 {

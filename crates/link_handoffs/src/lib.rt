@@ -34,9 +34,7 @@ fn enters(
 ) -> Result<(), Refusal>
     ensures { Enters words.now halves.now bytes.now list outbound size result }
 {
-    link_entry::enters(
-        words, halves, bytes, list, ANY, outbound, ANY, false, true,
-    )?;
+    link_entry::enters(words, halves, bytes, list, ANY, outbound, ANY, false, true)?;
     if SessionState::MAX_HANDOFF < size {
         return Err(Refusal::HandoffTooLong);
     }
@@ -51,7 +49,13 @@ fn starting(halves: &mut Halves, bytes: &mut Bytes, restoring: bool)
         return;
     }
     let disposition = bytes[parts::DISPOSITION];
-    link_setup::stage(halves, bytes, disposition, SetupCode::Started as u8, NO_TERMS);
+    link_setup::stage(
+        halves,
+        bytes,
+        disposition,
+        SetupCode::Started as u8,
+        NO_TERMS,
+    );
 }
 
 // ---- the handoff that is there

@@ -80,9 +80,7 @@ fn accept_enters(
 ) -> Result<(), Refusal>
     ensures { AcceptEnters terms words.now halves.now bytes.now outbound result }
 {
-    link_entry::enters(
-        words, halves, bytes, ANY, ANY, outbound, ANY, false, true,
-    )?;
+    link_entry::enters(words, halves, bytes, ANY, ANY, outbound, ANY, false, true)?;
     if bytes[parts::SETUP] != SetupCode::None as u8 {
         return Err(Refusal::AlreadyAccepted);
     }
