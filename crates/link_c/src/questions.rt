@@ -8,7 +8,6 @@ ghost use Rattle.session.specs.Promise.{terms_in_session};
 ghost use Rattle.parts.specs.Parts.{parts, opened_of};
 ghost use Rattle.link_c.specs.Forms.{terms_of};
 
-use link_setup::NO_TERMS;
 use parts::{Bytes, Halves, Words};
 use rules::Terms;
 
@@ -30,7 +29,10 @@ fn terms_of(t: Option<Terms>) -> LinkTerms
             waiting: true,
         },
         None => LinkTerms {
-            terms: NO_TERMS,
+            terms: Terms {
+                number: 0,
+                initiator: false,
+            },
             waiting: false,
         },
     }
