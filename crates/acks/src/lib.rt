@@ -18,7 +18,7 @@ use session::{ANY, Returned, Told};
 
 // ---- an ack
 
-// `==`, said in the rule book's words.
+// `==` under a name of its own: proofs cite its clause.
 pub fn is_raw(mode: ReceiveMode) -> bool
     ensures { result ≡ is_raw mode }
 {

@@ -35,7 +35,7 @@ use Rattle.parts.proofs.Opened.{opened_as}
 use Rattle.parts.proofs.After.{agree_all}
 use Rattle.link_sound.proofs.Lengths.{words-long, bytes-long}
 use Rattle.link_sound.proofs.Parts.{usable}
-use Rattle.link_sending.specs.Sends.{Ready, AllocatesIn}
+use Rattle.link_sending.specs.Sends.{Ready, AllocatesIn, Joined}
 use Rattle.link_sending.proofs.Sends.{raised, left, clock-raised}
 use Rattle.link_setup.specs.Steps.{Stages, AsksIn}
 use Rattle.link_setup.proofs.Stages.{stage_is, restaged, stages_apart, stage-starts}
@@ -203,10 +203,10 @@ module _ (w h b : List ℕ) (t : Float) (l : List ℕ) (o body : Bytes) (id : �
       subst (λ (n : ℕ). HandsOver id n body (handoff_in w₂ b₂)) next_in (record { is = g.handed.is; full = g.handed.full; size = g.handed.size })
 
   module _ (lh : length h ≡ 772) where
-    pub goes : {w₁ h₁ b₁ : List ℕ} {o' : Bytes} (a : AllocatesIn body w h b o (Ok tt) w₁ h₁ b₁ o') → {w₂ b₂ : List ℕ} → HandedIn (some written) w₁ b₁ w₂ b₂
+    hands : {w₁ h₁ b₁ : List ℕ} {o' : Bytes} (a : AllocatesIn body w h b o (Ok tt) w₁ h₁ b₁ o') → {w₂ b₂ : List ℕ} → HandedIn (some written) w₁ b₁ w₂ b₂
         → {y : LinkAnswer} {l' : List ℕ} → AsksIn (clock_in (raised h h₁) t) l y l' → (restoring : Bool)
         → ComesIn (commanding restoring (some c)) (parts w h b t) (parts w₂ (raised h h₁) b₂ t) l o y l' o'
-    goes {w₁} {h₁} {b₁} a {w₂} {b₂} g {l' = l'} q restoring =
+    hands {w₁} {h₁} {b₁} a {w₂} {b₂} g {l' = l'} q restoring =
         let lw : 1296 ≤ length w = words-long w h b t k.full in
         let lb : 4936 ≤ length b = bytes-long w h b t k.full in
         let joined : SessionState = staged s.stage.disposition s.stage.setup (grown w h b t k lh a) in
@@ -220,3 +220,10 @@ module _ (w h b : List ℕ) (t : Float) (l : List ℕ) (o body : Bytes) (id : �
               ∙ ap (handing (handoff_in w₂ b₂)) (left w h b t lw lb lh a);
           answers = q.answers;
         }
+
+    pub goes : {w₁ h₁ b₁ : List ℕ} {o' : Bytes} (j : Joined body w h b o w₁ h₁ b₁ o') → {w₂ b₂ : List ℕ} → HandedIn (some written) w₁ b₁ w₂ b₂
+        → {y : LinkAnswer} {l' : List ℕ} → AsksIn (clock_in h₁ t) l y l' → (restoring : Bool)
+        → ComesIn (commanding restoring (some c)) (parts w h b t) (parts w₂ h₁ b₂ t) l o y l' o'
+    goes {w₁} {h₁} {b₁} {o'} j {w₂} {b₂} g {y} {l'} q restoring =
+        subst (λ (x : List ℕ). ComesIn (commanding restoring (some c)) (parts w h b t) (parts w₂ x b₂ t) l o y l' o') (sym j.raises)
+        (hands j.joins g (subst (λ (x : List ℕ). AsksIn (clock_in x t) l y l') j.raises q) restoring)

@@ -34,9 +34,7 @@ fn enters(
 ) -> Result<(), Refusal>
     ensures { Enters words.now halves.now bytes.now list outbound size result }
 {
-    link_entry::enters(
-        words, halves, bytes, list, ANY, outbound, ANY, false, true,
-    )?;
+    link_entry::enters(words, halves, bytes, list, ANY, outbound, ANY, false, true)?;
     if SessionState::MAX_HANDOFF < size {
         return Err(Refusal::HandoffTooLong);
     }
@@ -51,7 +49,13 @@ fn starting(halves: &mut Halves, bytes: &mut Bytes, restoring: bool)
         return;
     }
     let disposition = bytes[parts::DISPOSITION];
-    link_setup::stage(halves, bytes, disposition, SetupCode::Started as u8, NO_TERMS);
+    link_setup::stage(
+        halves,
+        bytes,
+        disposition,
+        SetupCode::Started as u8,
+        NO_TERMS,
+    );
 }
 
 // ---- the handoff that is there
@@ -146,10 +150,8 @@ fn hand_off(
     ensures { (restoring : Bool) → ComesIn (commanding restoring (some (lent_command c.entry))) (parts words.old halves.old bytes.old clock.now) (parts words.new halves.new bytes.new clock.now) list.old outbound.old result list.new outbound.new }
 {
     let number = words[parts::NEXT];
-    let generation = halves[parts::GENERATION];
-    match link_sending::allocate(words, halves, bytes, outbound, c.body) {
+    match link_sending::join(words, halves, bytes, outbound, c.body) {
         Ok(()) => {
-            halves[parts::GENERATION] = generation + 1;
             let given = Given {
                 id: c.id,
                 number,

@@ -20,7 +20,13 @@ fn retired(words: &mut Words, halves: &mut Halves, bytes: &mut Bytes, queue: &mu
 {
     link_queue::clear(words, halves, bytes, queue);
     let disposition = bytes[parts::DISPOSITION];
-    link_setup::stage(halves, bytes, disposition, SetupCode::Retired as u8, NO_TERMS);
+    link_setup::stage(
+        halves,
+        bytes,
+        disposition,
+        SetupCode::Retired as u8,
+        NO_TERMS,
+    );
     bytes[parts::HANDOFF_PRESENT] = 0;
 }
 

@@ -31,7 +31,7 @@ use Rattle.link_outbox.specs.Steps.{Joins}
 use Rattle.link_outbox.proofs.Records.{past_same}
 use Rattle.link_sound.proofs.Lengths.{words-long, bytes-long}
 use Rattle.link_entry.proofs.Entered.{checked}
-use Rattle.link_sending.specs.Sends.{Ready, AllocatesIn}
+use Rattle.link_sending.specs.Sends.{Ready, AllocatesIn, Joined}
 
 -- ---- a message joined and the generation is raised: the session that the parts are then
 
@@ -84,13 +84,20 @@ module _ (w h b : List ℕ) (t : Float) (l : List ℕ) (o body : Bytes) (ready :
   lb : 4936 ≤ length b
   lb = bytes-long w h b t ready.checked.full
 
-  pub went : length h ≡ 772 → {w' h' b' : List ℕ} {o' : Bytes} → AllocatesIn body w h b o (Ok tt) w' h' b' o' → {k : Clock} → k ≡ clock_in (raised h h') t
+  goes : length h ≡ 772 → {w' h' b' : List ℕ} {o' : Bytes} → AllocatesIn body w h b o (Ok tt) w' h' b' o' → {k : Clock} → k ≡ clock_in (raised h h') t
       → {l' : List ℕ} {n : ℕ} → Listed (asked k) l 0 l' n → {y : LinkAnswer} → y ≡ answer_of (Number (at w 0)) n
       → Driven (parts w h b t) (parts w' (raised h h') b' t) y (λ s r. CalledWithOutbound (sends body) s l o r l' o')
   unfolding opened_of
-  went lh {w'} {h'} {b'} a ek {l'} {n} li f =
+  goes lh {w'} {h'} {b'} a ek {l'} {n} li f =
       changes (parts w h b t) (sym ready.checked.is) (parts w' (raised h h') b' t) _ (left w h b t lw lb lh a) (Number (at w 0)) n f
       (λ d q lq. S.went (opened_of (parts w h b t)) l o body d q ready.list ready.outbound (sym ready.checked.is) ready.checked.full lq ready.low a.allocates (subst (λ (c : Clock). Listed (asked c) l 0 l' n) (ek ∙ clock-raised w h b t lw lb lh a) li))
+
+  pub went : length h ≡ 772 → {w' h' b' : List ℕ} {o' : Bytes} → Joined body w h b o w' h' b' o' → {k : Clock} → k ≡ clock_in h' t
+      → {l' : List ℕ} {n : ℕ} → Listed (asked k) l 0 l' n → {y : LinkAnswer} → y ≡ answer_of (Number (at w 0)) n
+      → Driven (parts w h b t) (parts w' h' b' t) y (λ s r. CalledWithOutbound (sends body) s l o r l' o')
+  went lh {w'} {h'} {b'} {o'} j ek {l'} {n} li {y} f =
+      subst (λ (x : List ℕ). Driven (parts w h b t) (parts w' x b' t) y (λ s r. CalledWithOutbound (sends body) s l o r l' o')) (sym j.raises)
+      (goes lh j.joins (ek ∙ ap (λ (x : List ℕ). clock_in x t) j.raises) li f)
 
   -- a refusal, by the number of messages or the room that is left
   pub stopped : {w' h' b' : List ℕ} {o' : Bytes} {x : Refusal} → AllocatesIn body w h b o (Err x) w' h' b' o' → {y : LinkAnswer} → y ≡ answer_of (Refused x) 0

@@ -1,13 +1,13 @@
 // A send on the parts of a session, in place: the driver's send on the session that they are.
 #![tactic(auto)]
 
-ghost use Rattle.std.specs.Prelude.{length};
+ghost use Rattle.std.specs.Prelude.{◌<◌, length};
 ghost use Rattle.rules.specs.Calls.{sends};
 ghost use Rattle.outbox.specs.View.{ExactOutbox};
 ghost use Rattle.session.specs.Promise.{CalledWithOutbound};
-ghost use Rattle.parts.specs.Parts.{parts, outbox_in};
+ghost use Rattle.parts.specs.Parts.{parts, at, outbox_in};
 ghost use Rattle.parts.specs.Driven.{Driven};
-ghost use Rattle.link_sending.specs.Sends.{Ready, AllocatesIn};
+ghost use Rattle.link_sending.specs.Sends.{Ready, AllocatesIn, JoinsIn};
 
 use parts::{Bytes, Halves, LinkAnswer, Words};
 use peer_session::SessionState;
@@ -40,6 +40,23 @@ pub fn allocate(
     Ok(())
 }
 
+// `setup::join` but for the disposition: a message joins, and the generation is raised. A refusal leaves the parts and the store.
+pub fn join(
+    words: &mut Words,
+    halves: &mut Halves,
+    bytes: &mut Bytes,
+    store: &mut [u8],
+    body: &[u8],
+) -> Result<(), Refusal>
+    requires { ExactOutbox (outbox_in words.old halves.old bytes.old) (length store.old) × (at halves.old 768 < 4294966000) }
+    ensures { JoinsIn body.now words.old halves.old bytes.old store.old result words.new halves.new bytes.new store.new }
+{
+    let generation = halves[parts::GENERATION];
+    allocate(words, halves, bytes, store, body)?;
+    halves[parts::GENERATION] = generation + 1;
+    Ok(())
+}
+
 // A send past its tests.
 fn goes(
     words: &mut Words,
@@ -54,10 +71,8 @@ fn goes(
     ensures { Driven (parts words.old halves.old bytes.old clock.now) (parts words.new halves.new bytes.new clock.now) result (λ s y. CalledWithOutbound (sends body.now) s list.old outbound.old y list.new outbound.new) }
 {
     let number = words[parts::NEXT];
-    let generation = halves[parts::GENERATION];
-    match allocate(words, halves, bytes, outbound, body) {
+    match join(words, halves, bytes, outbound, body) {
         Ok(()) => {
-            halves[parts::GENERATION] = generation + 1;
             let k = link_codes::clock_in(halves, clock);
             let n = events::request(k, list, 0);
             link_codes::number(number, n)

@@ -15,7 +15,7 @@ use Rattle.rules.specs.Lists.{Bytes}
 use Rattle.rules.specs.Setup.{is_none}
 use Rattle.rules.specs.Calls.{accepts}
 use Rattle.rules.specs.Buffers.{taken_by, short, wrong_code, queue_reach}
-use Rattle.std.specs.Prelude.{Ok, Err}
+use Rattle.std.specs.Prelude.{Err}
 use Rattle.peer_session.specs.View.{state_of}
 use Rattle.peer_session.specs.Sound.{Checked}
 use Rattle.session.specs.Promise.{lent, CalledWithOutboundAlone}
@@ -33,7 +33,7 @@ use Rattle.parts.specs.Driven.{Driven}
 use Rattle.parts.proofs.Drives.{changes, refuses}
 use Rattle.link_sound.proofs.Lengths.{bytes-long}
 use Rattle.link_sound.proofs.Parts.{usable}
-use Rattle.link_sending.specs.Sends.{AllocatesIn}
+use Rattle.link_sending.specs.Sends.{AllocatesIn, Joined}
 use Rattle.link_sending.proofs.Sends.{raised}
 use Rattle.link_setup.specs.Steps.{Stages, Accepting, NotAccepting, AcceptEnters}
 use Rattle.link_setup.proofs.Stages.{is-fresh, not_fresh, restaged, stages_apart, stage-waits}
@@ -108,10 +108,12 @@ module _ (w h b : List ℕ) (t : Float) (terms : Terms) (o body : Bytes) (ready 
 
   module _ (i : terms.initiator ≡ true) where
     -- a proposal is made
-    pub proposes : (lh : length h ≡ 772) {w' h' b' : List ℕ} {o' : Bytes} → AllocatesIn body w h b o (Ok tt) w' h' b' o' → {h'' b'' : List ℕ}
-        → Stages 1 1 terms (raised h h') b' h'' b'' → {y : LinkAnswer} → y ≡ answer_of Done 0
+    pub proposes : (lh : length h ≡ 772) {w' h' b' : List ℕ} {o' : Bytes} → Joined body w h b o w' h' b' o' → {h'' b'' : List ℕ}
+        → Stages 1 1 terms h' b' h'' b'' → {y : LinkAnswer} → y ≡ answer_of Done 0
         → Driven (parts w h b t) (parts w' h'' b'' t) y (λ s r. CalledWithOutboundAlone (accepts terms body) s o r o')
-    proposes lh {w'} {b' = b'} a {h''} {b''} s f =
+    proposes lh {w'} {b' = b'} j {h''} {b''} r f =
+        let a = j.joins in
+        let s : Stages 1 1 terms (raised h j.halves) b' h'' b'' = subst (λ (x : List ℕ). Stages 1 1 terms x b' h'' b'') j.raises r in
         changes (parts w h b t) (sym k.is) (parts w' h'' b'' t) _ (joined_waiting w h b t k lh a s) Done 0 f
         (λ l d q lq. L.comes accepting (opened_of (parts w h b t)) l d o q not_taken (sym k.is) k.full ready.outbound lq (proposed terms (joins w h b t k lh a 1) refl) (accept-first terms body (state_of (opened_of (parts w h b t)) o q) ready.low ready.new i (ready.first i)) (λ e. refl))
 

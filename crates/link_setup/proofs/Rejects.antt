@@ -26,7 +26,7 @@ use Rattle.parts.specs.Parts.{Parts, parts, at, clock_in, reject_in, opened_of}
 use Rattle.parts.specs.Driven.{Driven}
 use Rattle.parts.proofs.Drives.{changes, refuses}
 use Rattle.link_sound.proofs.Lengths.{words-long, bytes-long}
-use Rattle.link_sending.specs.Sends.{Ready, AllocatesIn}
+use Rattle.link_sending.specs.Sends.{Ready, AllocatesIn, Joined}
 use Rattle.link_sending.proofs.Sends.{raised, clock-raised}
 use Rattle.link_setup.specs.Steps.{AsksIn}
 use Rattle.link_setup.proofs.Joins.{joins, joins_not, joined_under}
@@ -63,11 +63,13 @@ module _ (w h b : List ℕ) (t : Float) (l : List ℕ) (o : Bytes) (ready : Read
       (λ d q lq. L.comes rejects_plain (opened_of (parts w h b t)) l d o q (λ x. ready.list) (sym k.is) k.full ready.outbound lq (rejected (joins w h b t k lh a 4) (record { is = refl; listed = subst (λ (c : Clock). Listed (asked c) l 0 l' n) (clock-raised w h b t lw lb lh a) li })) (reject-goes (state_of (opened_of (parts w h b t)) o q) ready.low) is-taken)
 
   module _ {j : RejectBody} (ej : j ≡ reject_in w b) where
-    pub went : (lh : length h ≡ 772) {w' h' b' : List ℕ} {o' : Bytes} → AllocatesIn (take j.len j.bytes) w h b o (Ok tt) w' h' b' o'
-        → {l' : List ℕ} {y : LinkAnswer} → AsksIn (clock_in (raised h h') t) l y l'
-        → Driven (parts w h b t) (parts w' (raised h h') (set b' 768 4) t) y (λ s r. CalledWithOutbound rejects s l o r l' o')
-    went lh {w'} {h'} {b'} {o'} a k =
-        rejects_it lh (subst (λ (x : RejectBody). AllocatesIn (take x.len x.bytes) w h b o (Ok tt) w' h' b' o') ej a) k.listed k.answers
+    pub went : (lh : length h ≡ 772) {w' h' b' : List ℕ} {o' : Bytes} → Joined (take j.len j.bytes) w h b o w' h' b' o'
+        → {l' : List ℕ} {y : LinkAnswer} → AsksIn (clock_in h' t) l y l'
+        → Driven (parts w h b t) (parts w' h' (set b' 768 4) t) y (λ s r. CalledWithOutbound rejects s l o r l' o')
+    went lh {w'} {h'} {b'} {o'} g {l'} {y} k =
+        let a : AsksIn (clock_in (raised h g.halves) t) l y l' = subst (λ (x : List ℕ). AsksIn (clock_in x t) l y l') g.raises k in
+        subst (λ (x : List ℕ). Driven (parts w h b t) (parts w' x (set b' 768 4) t) y (λ s r. CalledWithOutbound rejects s l o r l' o')) (sym g.raises)
+        (rejects_it lh (subst (λ (x : RejectBody). AllocatesIn (take x.len x.bytes) w h b o (Ok tt) w' g.halves b' o') ej g.joins) a.listed a.answers)
 
     pub stopped : {w' h' b' : List ℕ} {o' : Bytes} {x : Refusal} → AllocatesIn (take j.len j.bytes) w h b o (Err x) w' h' b' o' → {y : LinkAnswer} → y ≡ answer_of (Refused x) 0
         → Driven (parts w h b t) (parts w' h' b' t) y (λ s r. CalledWithOutbound rejects s l o r l o')

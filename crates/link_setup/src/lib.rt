@@ -80,9 +80,7 @@ fn accept_enters(
 ) -> Result<(), Refusal>
     ensures { AcceptEnters terms words.now halves.now bytes.now outbound result }
 {
-    link_entry::enters(
-        words, halves, bytes, ANY, ANY, outbound, ANY, false, true,
-    )?;
+    link_entry::enters(words, halves, bytes, ANY, ANY, outbound, ANY, false, true)?;
     if bytes[parts::SETUP] != SetupCode::None as u8 {
         return Err(Refusal::AlreadyAccepted);
     }
@@ -108,10 +106,8 @@ fn propose(
     requires { (Accepting (parts words.old halves.old bytes.old clock.now) terms (length outbound.old)) × (terms.initiator ≡ true) }
     ensures { Driven (parts words.old halves.old bytes.old clock.now) (parts words.new halves.new bytes.new clock.now) result (λ s y. CalledWithOutboundAlone (accepts terms body.now) s outbound.old y outbound.new) }
 {
-    let generation = halves[parts::GENERATION];
-    match link_sending::allocate(words, halves, bytes, outbound, body) {
+    match link_sending::join(words, halves, bytes, outbound, body) {
         Ok(()) => {
-            halves[parts::GENERATION] = generation + 1;
             stage(
                 halves,
                 bytes,
@@ -183,13 +179,11 @@ fn send_reject(
     requires { Ready (parts words.old halves.old bytes.old clock.now) (length list.old) (length outbound.old) }
     ensures { Driven (parts words.old halves.old bytes.old clock.now) (parts words.new halves.new bytes.new clock.now) result (λ s y. CalledWithOutbound rejects s list.old outbound.old y list.new outbound.new) }
 {
-    let generation = halves[parts::GENERATION];
     let j = link_codes::reject_in(words, bytes);
     let body = j.bytes;
     let len = j.len;
-    match link_sending::allocate(words, halves, bytes, outbound, &body[..len]) {
+    match link_sending::join(words, halves, bytes, outbound, &body[..len]) {
         Ok(()) => {
-            halves[parts::GENERATION] = generation + 1;
             bytes[parts::DISPOSITION] = Disposition::OutboundReject as u8;
             done(halves, clock, list)
         }

@@ -49,7 +49,7 @@ pub fn refused(s: SessionState, x: Refusal) -> Returned
     unchanged(s, Answer::Refused(x), 0)
 }
 
-// The length of a buffer that a call does not take.
+// The length of a buffer that a call does not take: a length that every test passes, so that a call without the buffer needs no Option.
 pub const ANY: usize = usize::MAX;
 
 // The tests at a call's entry, in their order: the lengths of its buffers, whether a code is outside its list, the session, and, of a call that may

@@ -3,11 +3,8 @@ use Rattle.link_handoffs.proofs.Steps.{stopped, goes}
 use native.Mathlib.Omega.{arith}
 use Rattle.link_handoffs.proofs.hand_off.Goals as goal
 
-pub allocate-requires : goal.allocate-requires
-allocate-requires c = exact_in c.args.words.now c.args.halves.now c.args.bytes.now c.args.clock.now c.args.outbound.now c.requires.0
-
-pub overflow_add-halves : goal.overflow_add-halves
-overflow_add-halves c = omega (arith, low_in c.args.words.now c.args.halves.now c.args.bytes.now c.args.clock.now c.args.outbound.now c.requires.0)
+pub join-requires : goal.join-requires
+join-requires c = (exact_in c.args.words.now c.args.halves.now c.args.bytes.now c.args.clock.now c.args.outbound.now c.requires.0, low_in c.args.words.now c.args.halves.now c.args.bytes.now c.args.clock.now c.args.outbound.now c.requires.0)
 
 pub returns-in-Ok : goal.returns-in-Ok
 returns-in-Ok c = goes c.args.words.now c.args.halves.now c.args.bytes.now c.args.clock.now c.args.list.now c.args.outbound.now c.args.c.body.now c.args.c.id c.requires.0 c.requires.1 (omega arith) c.in-Ok.ensures c.hand.ensures c.done.ensures

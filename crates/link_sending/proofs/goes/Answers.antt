@@ -2,11 +2,8 @@ use native.Mathlib.Omega.{arith}
 use Rattle.link_sending.proofs.Sends.{went, stopped, exact-outbox, low_generation}
 use Rattle.link_sending.proofs.goes.Goals as goal
 
-pub allocate-requires : goal.allocate-requires
-allocate-requires c = exact-outbox c.args.words.now c.args.halves.now c.args.bytes.now c.args.clock.now c.args.outbound.now c.requires
-
-pub overflow_add-halves : goal.overflow_add-halves
-overflow_add-halves c = omega (arith, low_generation c.args.words.now c.args.halves.now c.args.bytes.now c.args.clock.now c.requires)
+pub join-requires : goal.join-requires
+join-requires c = (exact-outbox c.args.words.now c.args.halves.now c.args.bytes.now c.args.clock.now c.args.outbound.now c.requires, low_generation c.args.words.now c.args.halves.now c.args.bytes.now c.args.clock.now c.requires)
 
 pub returns-in-Ok : goal.returns-in-Ok
 returns-in-Ok c = went c.args.words.now c.args.halves.now c.args.bytes.now c.args.clock.now c.args.list.now c.args.outbound.now c.args.body.now c.requires (omega arith) c.in-Ok.ensures c.clock_in-k.ensures c.request-n.ensures c.number.ensures
