@@ -1,11 +1,11 @@
 // Acks on the parts of a session, in place: the driver's call on the session that they are.
 #![tactic(auto)]
 
-ghost use Rattle.std.specs.Prelude.{◌≡◌, false, ◌&&◌, ◌||◌, ◌≤◌, length, leb, eqb};
+ghost use Rattle.std.specs.Prelude.{◌≡◌, false, ◌&&◌, ◌≤◌, length, eqb};
 ghost use Rattle.rules.specs.Lists.{Bytes};
 ghost use Rattle.rules.specs.Calls.{gets_ack};
 ghost use Rattle.session.specs.Promise.{CalledWithStores};
-ghost use Rattle.parts.specs.Parts.{parts, at, flag};
+ghost use Rattle.parts.specs.Parts.{parts, at};
 ghost use Rattle.parts.specs.Driven.{Driven};
 ghost use Rattle.link_sending.specs.Sends.{Ready};
 ghost use Rattle.link_draining.specs.Steps.{Failing};
@@ -20,14 +20,6 @@ fn out_of_range(next: u64, number: u64) -> bool
     ensures { result ≡ outside number next }
 {
     number < 1 || next <= number
-}
-
-// Whether a handoff is acknowledged after an ack, as a flag.
-fn handoff_flag(before: u8, sent: u8, handoff: u64, number: u64) -> u8
-    ensures { flag result ≡ (flag before || (flag sent && leb handoff number)) }
-{
-    let told = acks::handoff_acknowledged(before != 0, sent != 0, handoff, number);
-    link_codes::flag_byte(told)
 }
 
 // Whether a rejection is complete, by how many messages are left.
@@ -53,15 +45,15 @@ fn acknowledged(
     let before = words[parts::UNACKED] as usize;
     let disposition = bytes[parts::DISPOSITION];
     let raw = bytes[parts::MODE] == ReceiveMode::Raw as u8;
-    let flag = handoff_flag(
-        bytes[parts::HANDOFF_ACKNOWLEDGED],
-        bytes[parts::HANDOFF_SENT],
+    let told = acks::handoff_acknowledged(
+        bytes[parts::HANDOFF_ACKNOWLEDGED] != 0,
+        bytes[parts::HANDOFF_SENT] != 0,
         words[parts::HANDOFF_NUMBER],
         number,
     );
     link_outbox::acknowledge(words, halves, bytes, outbound, number);
     let left = words[parts::UNACKED];
-    bytes[parts::HANDOFF_ACKNOWLEDGED] = flag;
+    bytes[parts::HANDOFF_ACKNOWLEDGED] = link_codes::flag_byte(told);
     let k = link_codes::clock_in(halves, clock);
     let after = acks::acknowledged_clock(k, before, left as usize);
     halves[parts::GENERATION] = after.generation;

@@ -1,12 +1,12 @@
 -- A delivery in Raw mode. Assumes nothing.
 use mathlib.Core.Path.{◌≡◌, refl, sym, ap, ◌∙◌, subst}
-use mathlib.Core.Bool.{true, not, ◌||◌}
-use lib.Dec.{eqb}
-use Rattle.std.specs.Prelude.{Ok}
+use mathlib.Core.Bool.{Bool, true, not, ◌||◌}
+use lib.Dec.{eqb, ltb}
+use Rattle.std.specs.Prelude.{Ok, if◌then◌else◌}
 use Rattle.rules.specs.State.{is_proposal}
 use Rattle.rules.specs.declared.ReceiveMode.{ReceiveMode}
 use mathlib.Core.List.{List, [], ◌∷◌}
-use Prim.Native.Nat.{ℕ, ◌+◌, ◌*◌, ◌≤◌, ◌<◌}
+use Prim.Native.Nat.{ℕ, ◌+◌, ◌*◌, ◌≤◌}
 use native.Mathlib.Omega.{arith}
 use lib.ListN.{length}
 use Rattle.stores.specs.Placed.{placed}
@@ -14,8 +14,11 @@ use Rattle.rules.specs.declared.HostStatus.{HostStatus}
 use Rattle.rules.specs.declared.ReceiveMode.TheVariants.{Raw}
 use Rattle.rules.specs.Lists.{Bytes}
 use Rattle.rules.specs.State as R
-use Rattle.events.specs.Written.{Listed, asked, books}
-use Rattle.events.proofs.Laws.{request_yes, request_no}
+use Rattle.rules.specs.Events.{commit_requested, listed}
+use Rattle.rules.specs.Buffers.{flat}
+use Rattle.events.specs.Emitted.{EmittedIf}
+use Rattle.events.specs.Written.{ListedIn, Listed, asked, books}
+use Rattle.events.proofs.Emitted.{emitted_listed}
 use Rattle.delivery.specs.declared.Turn.{Turn}
 use Rattle.delivery.specs.Turns.{frame_of, step_at, Delivered}
 use Rattle.delivery.specs.Acts.{Available, Deliverable}
@@ -45,24 +48,16 @@ module _ (number generation persisted : ℕ) (l : List ℕ) (n : ℕ) (d : Bytes
       deliver-goes g t (books l n d at) l₁ d₁ (record { listed = omega arith; filled = omega arith }) (step_at t (n + 1) (at + length body))
       (did_consumed g m (λ st. raw_is g st) (omega arith) (did_message t (books l n d at) g (handed_over number body l n d at l₁ d₁ e f) refl)) h refl
 
-  -- the same, by the generation that it comes to
-  handed : {l₂ : List ℕ} {k : ℕ} → ((t : Turn) → t.clock.generation + 1 ≡ generation → t.clock.persisted ≡ persisted
-      → Listed (asked (reached t number (t.clock.generation + 1)).clock) l₁ (n + 1) l₂ k)
+  -- the same, by the generation that it comes to: a commit is requested where it exceeds the persisted one
+  pub handed-raw : {l₂ : List ℕ} {k : ℕ} → EmittedIf (ltb persisted generation) 1 0 0 0 l₁ (n + 1) l₂ k
       → HandedRaw number generation persisted body (books l n d at) k l₂ d₁
-  handed {l₂} {k} h =
+  unfolding flat listed
+  handed-raw {l₂} {k} s =
       record {
         delivered = λ t kind m eg ep.
+            let test : ltb persisted generation ≡ ltb t.clock.persisted (t.clock.generation + 1) = rw (eg, ep) refl in
             subst (λ (g : ℕ). Delivered (frame_of number kind body) t (books l n d at) (Ok (step_at (reached t number g) k (at + length body))) l₂ d₁) eg
-            (raw t kind m l₂ k (h t eg ep));
+            (raw t kind m l₂ k
+            (λ us. subst (λ (b : Bool). ListedIn us (if b then (commit_requested ∷ []) else []) l₁ (n + 1) l₂ k) test
+            (emitted_listed us commit_requested (ltb persisted generation) s (λ x. refl))));
       }
-
-  -- a commit is requested, or not
-  pub handed-asked : persisted < generation → {l₂ : List ℕ} → l₂ ≡ placed l₁ (4 * (n + 1)) (1 ∷ 0 ∷ 0 ∷ 0 ∷ [])
-      → HandedRaw number generation persisted body (books l n d at) (n + 2) l₂ d₁
-  handed-asked h {l₂} e₂ =
-      let z : n + 1 + 1 ≡ n + 2 = omega arith in
-      subst (λ (k : ℕ). HandedRaw number generation persisted body (books l n d at) k l₂ d₁) z
-      (handed (λ t eg ep. request_yes (reached t number (t.clock.generation + 1)).clock l₁ l₂ (n + 1) (omega (arith, eg, ep)) e₂))
-
-  pub handed_plain : generation ≤ persisted → HandedRaw number generation persisted body (books l n d at) (n + 1) l₁ d₁
-  handed_plain h = handed (λ t eg ep. request_no (reached t number (t.clock.generation + 1)).clock l₁ (n + 1) (omega (arith, eg, ep)))

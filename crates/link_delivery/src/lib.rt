@@ -107,11 +107,15 @@ fn hand_over(
         at as u64,
         len as u64,
     );
-    if persisted < generation {
-        events::emit(list, n + 1, EventCode::CommitRequested as u64, 0, 0, 0);
-        return n + 2;
-    }
-    n + 1
+    events::emit_if(
+        persisted < generation,
+        list,
+        n + 1,
+        EventCode::CommitRequested as u64,
+        0,
+        0,
+        0,
+    )
 }
 
 // Where the host is there. Nothing but numbers changes from frame to frame, so the loop keeps them bare: a `Step` made anew for each frame is no plainer.

@@ -39,7 +39,7 @@ fn same_handoff(words: &Words, bytes: &Bytes, given: Given) -> bool
     (bytes[parts::HANDOFF_ACKNOWLEDGED] != 0) == given.acknowledged
 }
 
-// Whether there is no handoff, or the same one.
+// Whether there is no handoff, or the same one. The first test stands with its return: what is not present has no fields to compare.
 fn agrees(words: &Words, bytes: &Bytes, given: Option<Given>) -> bool
     requires { handoff_length (handoff_in words.now bytes.now) ≤ 4096 }
     ensures { result ≡ agrees (handoff_of (handoff_in words.now bytes.now)) (given_if given.entry) }

@@ -104,7 +104,7 @@ fn terminal(t: Turn, kind: u8) -> bool
     t.mode == ReceiveMode::Proposal && kind == BodyKind::Reject as u8
 }
 
-// Whether data is delivered now.
+// Whether data is delivered now. A chain: a host that is not available ends it, and the number says which of two calls answers.
 pub fn delivers(t: Turn, status: HostStatus, number: u64, kind: u8) -> bool
     requires { t.remote < number }
     ensures { Delivers status number kind t result }

@@ -108,7 +108,7 @@ fn same_handoff(h: TerminalHandoff, given: Given) -> bool
     h.acknowledged == given.acknowledged
 }
 
-// Whether there is no handoff, or the same one.
+// Whether there is no handoff, or the same one. The first test stands with its return: what is not present has no fields to compare.
 fn agrees(h: TerminalHandoff, given: Option<Given>) -> bool
     requires { handoff_length h ≤ length h.body }
     ensures { result ≡ agrees (handoff_of h) (given_if given.entry) }
