@@ -41,7 +41,7 @@ pub fn take(
     ensures { TakenIn «record».entry.reliable «record».entry.numbers.now «record».entry.lengths.now «record».entry.bodies.now words.old halves.old bytes.old outbound.old words.new halves.new bytes.new outbound.new }
 {
     let end = link_outbox::used(halves, words[parts::UNACKED] as usize);
-    let n = starts::body_bytes(record);
+    let n = starts::body_bytes(record.lengths, record.numbers.len());
     restores::repack(outbound, record.bodies, n, end);
     records(halves, bytes, record);
     words[parts::NEXT] = record.reliable.message_number;
@@ -141,7 +141,7 @@ fn starts_it(
     ensures { DrivenStart (parts words.old halves.old bytes.old clock.old) (parts words.new halves.new bytes.new clock.new) result (λ y. Started «record».entry.reliable «record».entry.numbers.now «record».entry.lengths.now «record».entry.bodies.now policy reject.now outbound.old queue.old y outbound.new queue.new) }
 {
     begin(words, halves, bytes, clock, record, policy, reject);
-    let n = starts::body_bytes(record);
+    let n = starts::body_bytes(record.lengths, record.numbers.len());
     starts::fill(outbound, record.bodies, n);
     let end = queue.len();
     stores::clear(queue, 0, end);

@@ -72,7 +72,7 @@ fn taken(s: SessionState, outbound: &mut [u8], record: Record) -> SessionState
 {
     let old = s.outbox;
     let end = outbox::used(old);
-    let n = starts::body_bytes(record);
+    let n = starts::body_bytes(record.lengths, record.numbers.len());
     repack(outbound, record.bodies, n, end);
     let outbox = starts::records(record);
     let remote = record.reliable.remote_number;

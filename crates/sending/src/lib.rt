@@ -15,11 +15,8 @@ pub fn send_message(s: SessionState, list: &mut [u64], outbound: &mut [u8], body
     if let Err(x) = session::enters(s, list.len(), ANY, outbound.len(), ANY, false, true) {
         return session::refused(s, x);
     }
-    match peer_session::allocate(s.outbox, outbound, body) {
-        Ok(more) => {
-            let mut r = s;
-            r.outbox = more;
-            r.clock.generation = s.clock.generation + 1;
+    match setup::join(s, outbound, s.stage.disposition, body) {
+        Ok(r) => {
             let n = events::request(r.clock, list, 0);
             Returned {
                 session: r,

@@ -137,13 +137,12 @@ pub fn records(record: Record) -> Outbox
     }
 }
 
-// How many bytes its messages have.
-pub fn body_bytes(record: Record) -> usize
-    requires { (length «record».numbers.now ≤ length «record».lengths.now) × (total itself (take (length «record».numbers.now) «record».lengths.now) ≤ 65536) }
-    ensures { result ≡ total itself (take (length «record».entry.numbers.now) «record».entry.lengths.now) }
+// How many bytes the first count lengths name.
+pub fn body_bytes(lengths: &[u64], count: usize) -> usize
+    requires { (count ≤ length lengths.now) × (total itself (take count lengths.now) ≤ 65536) }
+    ensures { result ≡ total itself (take count lengths.now) }
 {
-    let count = record.numbers.len();
-    let sum: u64 = record.lengths[..count].iter().sum();
+    let sum: u64 = lengths[..count].iter().sum();
     sum as usize
 }
 
@@ -270,7 +269,7 @@ pub fn start(
         return refused(x);
     }
     let session = begun(record, policy, reject);
-    let n = body_bytes(record);
+    let n = body_bytes(record.lengths, record.numbers.len());
     fill(outbound, record.bodies, n);
     let end = queue.len();
     stores::clear(queue, 0, end);

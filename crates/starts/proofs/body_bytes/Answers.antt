@@ -1,7 +1,7 @@
 use Prim.Native.Nat.{◌<◌, ◌^◌}
 use native.Mathlib.Omega.{arith}
 use mathlib.Core.Path.{◌∙◌}
-use lib.ListN.{length, take}
+use lib.ListN.{take}
 use Rattle.std.specs.List.{sum}
 use Rattle.std.proofs.lemmas.Iterator.{YieldsList-from_slice}
 use Rattle.std.proofs.lemmas.Iterator.Consumers.{sum_from_yields_List, fits_from_yields_list}
@@ -11,10 +11,10 @@ use Rattle.starts.proofs.body_bytes.Goals as goal
 
 pub sum-sum-requires-clause-fits : goal.sum-sum-requires-clause-fits
 sum-sum-requires-clause-fits c =
-    let fits : sum (take (length c.args.«record».numbers.now) c.args.«record».lengths.now) < 2 ^ 64 = omega (arith, c.requires.1, total-sum itself (take (length c.args.«record».numbers.now) c.args.«record».lengths.now)) in
-    fits_from_yields_list c.iter.result _ (YieldsList-from_slice (take (length c.args.«record».numbers.now) c.args.«record».lengths.now) (cc)) fits
+    let fits : sum (take c.args.count c.args.lengths.now) < 2 ^ 64 = omega (arith, c.requires.1, total-sum itself (take c.args.count c.args.lengths.now)) in
+    fits_from_yields_list c.iter.result _ (YieldsList-from_slice (take c.args.count c.args.lengths.now) (cc)) fits
 
 pub returns : goal.returns
 returns c =
-    sum_from_yields_List c.iter.result _ c.sum-sum.ensures.ran (YieldsList-from_slice (take (length c.args.«record».numbers.now) c.args.«record».lengths.now) (cc))
-    ∙ total-sum itself (take (length c.args.«record».numbers.now) c.args.«record».lengths.now)
+    sum_from_yields_List c.iter.result _ c.sum-sum.ensures.ran (YieldsList-from_slice (take c.args.count c.args.lengths.now) (cc))
+    ∙ total-sum itself (take c.args.count c.args.lengths.now)
