@@ -1,7 +1,7 @@
 -- The check of a session in place, test by test. Assumes nothing.
 use Prim.Native.Nat.{ℕ, ◌+◌, ◌-◌, ◌≤◌, ◌<◌}
 use mathlib.Core.Path.{◌≡◌, sym, ap, ◌∙◌, subst}
-use mathlib.Core.Bool.{Bool, true, false}
+use mathlib.Core.Bool.{Bool, true, false, ◌&&◌, true≢false}
 use mathlib.Core.List.{List}
 use native.Mathlib.Omega.{arith}
 use lib.ListN.{length, get_or}
@@ -9,7 +9,6 @@ use lib.Seq.{slice}
 use lib.Ieee.{Float}
 use Rattle.stores.specs.Admitted.{admitted}
 use Rattle.stores.proofs.Scans.{admitted-on, admitted_not}
-use Rattle.stores.proofs.Chains.{is_skip, is_stop}
 use Rattle.outbox.specs.Sound.{sound_outbox_of}
 use Rattle.queue.specs.declared.Queued.{Queued}
 use Rattle.queue.specs.View.{num_q, len_q, blank_q}
@@ -63,6 +62,13 @@ frame-room w h b i last sum e = (admits-fits (policy_in w) last sum (queued_at w
 
 -- ---- all of it
 
+-- where three tests do not all pass, the fourth is not made
+pub stopped : (x y z t : Bool) {r : Bool} → r ≡ ((x && y) && z) → r ≡ false → r ≡ (x && (y && (z && t)))
+stopped true true true t e f = absurd (true≢false (sym e ∙ f))
+stopped true true false t e f = f
+stopped true false z t e f = f
+stopped false y z t e f = f
+
 module _ (w h b : List ℕ) (s : Sized w b) (t : Float) where
   pub full : Full (opened_of (parts w h b t))
   unfolding opened_of
@@ -76,24 +82,17 @@ module _ (w h b : List ℕ) (s : Sized w b) (t : Float) where
         reject = length-section 4872 64 b (omega (arith, s.bytes));
       }
 
-  pub no_outbox : sound_outbox_of (outbox_in w h b) ≡ false → Checked (opened_of (parts w h b t)) false
+  -- the four tests, the last on numbers read before them
+  pub checked : {d n : ℕ} {r : Bool} → d ≡ (stage_of (codes_in h b)).disposition → n ≡ handoff_length (handoff_in w b)
+      → r ≡ (sound_outbox_of (outbox_in w h b)
+      && (sound_queue (policy_in w) (at w 2) (queue_in w h b) && (sound_acks (waiting_in w) (retry_in w) (at w 4) (at w 2) && sound_sizes d n (at w 14))))
+      → Checked (opened_of (parts w h b t)) r
   unfolding sound_of opened_of
-  no_outbox e = record { is = sym (is_stop _ _ e); full = full }
-
-  module _ (o : sound_outbox_of (outbox_in w h b) ≡ true) where
-    pub no_queue : sound_queue (policy_in w) (at w 2) (queue_in w h b) ≡ false → Checked (opened_of (parts w h b t)) false
-    unfolding sound_of opened_of
-    no_queue e = record { is = sym (is_skip _ _ _ o (is_stop _ _ e)); full = full }
-
-    module _ (q : sound_queue (policy_in w) (at w 2) (queue_in w h b) ≡ true) where
-      pub no_acks : sound_acks (waiting_in w) (retry_in w) (at w 4) (at w 2) ≡ false → Checked (opened_of (parts w h b t)) false
-      unfolding sound_of opened_of
-      no_acks e = record { is = sym (is_skip _ _ _ o (is_skip _ _ _ q (is_stop _ _ e))); full = full }
-
-      pub sizes_decide : sound_acks (waiting_in w) (retry_in w) (at w 4) (at w 2) ≡ true → {d n : ℕ} {r : Bool} → d ≡ (stage_of (codes_in h b)).disposition
-          → n ≡ handoff_length (handoff_in w b) → r ≡ sound_sizes d n (at w 14) → Checked (opened_of (parts w h b t)) r
-      unfolding sound_of opened_of
-      sizes_decide a {d} {n} {r} ed en er =
-          let e : r ≡ sound_sizes (stage_of (codes_in h b)).disposition (handoff_length (handoff_in w b)) (at w 14) =
-          er ∙ ap (λ (x : ℕ). sound_sizes x n (at w 14)) ed ∙ ap (λ (x : ℕ). sound_sizes (stage_of (codes_in h b)).disposition x (at w 14)) en in
-          record { is = sym (is_skip _ _ _ o (is_skip _ _ _ q (is_skip _ _ _ a (sym e)))); full = full }
+  checked {d} {n} {r} ed en er =
+      let tests : ℕ → ℕ → Bool =
+      λ (x y : ℕ). sound_outbox_of (outbox_in w h b)
+      && (sound_queue (policy_in w) (at w 2) (queue_in w h b) && (sound_acks (waiting_in w) (retry_in w) (at w 4) (at w 2) && sound_sizes x y (at w 14))) in
+      record {
+        is = er ∙ ap (λ (x : ℕ). tests x n) ed ∙ ap (tests (stage_of (codes_in h b)).disposition) en;
+        full = full;
+      }

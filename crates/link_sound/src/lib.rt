@@ -88,21 +88,14 @@ pub fn sound_acks(words: &Words) -> bool
 
 // ---- all of it
 
-// Tests stand one a line, each with its return, where names are bound or calls are made between them: `&&` over all of them would read no plainer.
 pub fn sound(words: &Words, halves: &Halves, bytes: &Bytes) -> bool
     ensures { (t : Float) → Checked (opened_of (parts words.now halves.now bytes.now t)) result }
 {
-    if !link_outbox::sound(words, halves) {
-        return false;
-    }
-    if !sound_queue(words, halves, bytes) {
-        return false;
-    }
-    if !sound_acks(words) {
-        return false;
-    }
     let present = bytes[parts::HANDOFF_PRESENT] != 0;
     let h = peer_session::handoff_length(present, words[parts::HANDOFF_LEN] as usize);
     let d = link_codes::disposition_in(halves, bytes);
-    peer_session::sound_sizes(d, h, words[parts::REJECT_LEN] as usize)
+    link_outbox::sound(words, halves)
+        && sound_queue(words, halves, bytes)
+        && sound_acks(words)
+        && peer_session::sound_sizes(d, h, words[parts::REJECT_LEN] as usize)
 }
