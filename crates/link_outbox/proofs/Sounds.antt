@@ -2,7 +2,7 @@
 use Rattle.std.specs.Int.{from_bool}
 use Rattle.std.specs.Prelude.{if◌then◌else◌}
 use mathlib.Core.Path.{◌≡◌, refl, sym, ap, ◌∙◌}
-use mathlib.Core.Bool.{Bool, true, false}
+use mathlib.Core.Bool.{Bool, true, false, ◌&&◌, true≢false}
 use mathlib.Core.List.{List, [], ◌∷◌}
 use Prim.Native.Nat.{ℕ, zero, suc, ◌+◌, ◌-◌, ◌*◌, ◌^◌, ◌≤◌, ◌<◌}
 use native.Mathlib.Omega.{arith}
@@ -11,7 +11,8 @@ use mathlib.Core.Logic.{⊎_elim}
 use lib.ListN.{length, take, drop, get_or}
 use lib.Seq.{slice, get_or-take, length-take-le}
 use lib.Dec.{ltb, leb}
-use borrow.Author.Tests.{le-leb, lt-leb, lt-ltb, ltb-false, ltb-true}
+use borrow.Author.Tests.{le-leb, lt-leb, lt-ltb, ltb-false, ltb-true, leb-true}
+use Rattle.std.proofs.lemmas.Bool.{and_parts}
 use Rattle.rules.specs.Lists.{all, total, rising, itself}
 use Rattle.rules.proofs.Lists.{and_left, and_right, and_both}
 use Rattle.stores.proofs.Packs.{slice-none}
@@ -125,12 +126,25 @@ steps_rise h b first n few s (suc m) i one e =
 
 -- ---- the tests
 
-pub not_sound : (x : Outbox) → (SoundU x → ⊥) → false ≡ sound_outbox_of x
-not_sound x h = go (sound_outbox_of x) (λ e. h (sound_facts x e))
-  where
-    go : (t : Bool) → (t ≡ true → ⊥) → false ≡ t
-    go true f = absurd (f refl)
-    go false f = refl
+-- where three tests do not all pass, the fourth is not made
+pub stopped : (x y z t : Bool) {r : Bool} → r ≡ ((x && y) && z) → r ≡ false → r ≡ (x && (y && (z && t)))
+stopped true true true t e f = absurd (true≢false (sym e ∙ f))
+stopped true true false t e f = f
+stopped true false z t e f = f
+stopped false y z t e f = f
+
+-- where they do, the fourth decides
+pub decides : (x y z t : Bool) {v r : Bool} → v ≡ ((x && y) && z) → v ≡ true → r ≡ t → r ≡ (x && (y && (z && t)))
+decides true true true t e f g = g
+decides true true false t e f g = absurd (true≢false (sym f ∙ e))
+decides true false z t e f g = absurd (true≢false (sym f ∙ e))
+decides false y z t e f g = absurd (true≢false (sym f ∙ e))
+
+-- two answers that stand for each other
+pub same : (a b : Bool) → (a ≡ true → b ≡ true) → (b ≡ true → a ≡ true) → a ≡ b
+same true b f g = sym (f refl)
+same false true f g = g refl
+same false false f g = refl
 
 module _ (w h b : List ℕ) where
   -- the outbox, its records, those in use
@@ -158,15 +172,15 @@ module _ (w h b : List ℕ) where
       omega (arith, ap num_u (used-at s.few i (omega arith)), ap num_u (used-at s.few j k))
 
   module _ (s : SoundU x) (some : 0 < n) where
-    pub first_positive : 0 < at h 0
+    first_positive : 0 < at h 0
     first_positive =
         omega (arith, ap num_u (used-at s.few 0 some), rises-above 0 0 (used_u x) s.order (omega (arith, used-length s.few)))
 
-    pub last-below : at h (n - 1) < at w 0
+    last-below : at h (n - 1) < at w 0
     last-below =
         omega (arith, ap num_u (used-at s.few (n - 1) (omega arith)), all-below (at w 0) (n - 1) (used_u x) s.below (omega (arith, used-length s.few)))
 
-    pub no_falls : falls (at h 0) (slice 1 n (seats 256 f)) ≡ 0
+    no_falls : falls (at h 0) (slice 1 n (seats 256 f)) ≡ 0
     no_falls =
         let e : falls 0 (used_u x) ≡ fall 0 (at h 0) + falls (at h 0) (slice 1 n (seats 256 f)) = falls-step f 0 n 0 some s.few in
         omega (arith, falls-none 0 (used_u x) s.order)
@@ -184,7 +198,7 @@ module _ (w h b : List ℕ) where
         small = omega (arith, ap (total len_u) e);
       }))
 
-  pub sound-all : n ≤ 256 → 1 ≤ at w 0 → at w 0 ≤ 4294967296 → 0 < n → 0 < at h 0 → at h (n - 1) < at w 0
+  sound-all : n ≤ 256 → 1 ≤ at w 0 → at w 0 ≤ 4294967296 → 0 < n → 0 < at h 0 → at h (n - 1) < at w 0
       → falls (at h 0) (slice 1 n (seats 256 f)) ≡ 0 → total len_u (take n (seats 256 f)) ≤ 65536 → true ≡ sound_outbox_of x
   sound-all few one end some first last rise small =
       let e : falls 0 (used_u x) ≡ fall 0 (at h 0) + falls (at h 0) (slice 1 n (seats 256 f)) = falls-step f 0 n 0 some few in
@@ -205,6 +219,23 @@ module _ (w h b : List ℕ) where
 
       below_last : (i : ℕ) → i < length (used_u x) → rising num_u 0 (used_u x) ≡ true → length (used_u x) ≡ n → (get_or (used_u x) (n - 1) blank_u).number ≡ at h (n - 1) → (get_or (used_u x) i blank_u).number < at w 0
       below_last i k up l le = ⊎_elim (λ (e : i ≡ n - 1). omega (arith, ap (λ (j : ℕ). (get_or (used_u x) j blank_u).number) e)) (λ (e : i < n - 1). omega (arith, rises_between 0 i (n - 1) (used_u x) up e (omega arith))) (eq-or-lt_of_le (upto i k l))
+
+  -- the tests of an outbox with messages
+  pub sound-some : 1 ≤ at w 0 → at w 0 ≤ 4294967296 → 0 < n → n ≤ 256
+      → (leb 1 (at h 0) && (ltb (at h (n - 1)) (at w 0) && (ltb (falls (at h 0) (slice 1 n (seats 256 f))) 1 && leb (total len_u (take n (seats 256 f))) 65536)))
+      ≡ sound_outbox_of x
+  sound-some one end some few =
+      same _ (sound_outbox_of x)
+      (λ e.
+      let p = and_parts (leb 1 (at h 0)) _ e in
+      let q = and_parts (ltb (at h (n - 1)) (at w 0)) _ p.1 in
+      let r = and_parts (ltb (falls (at h 0) (slice 1 n (seats 256 f))) 1) _ q.1 in
+      sym (sound-all few one end some (leb-true _ _ p.0) (ltb-true _ _ q.0) (omega (arith, ltb-true _ _ r.0)) (leb-true _ _ r.1)))
+      (λ e.
+      let s : SoundU x = sound_facts x e in
+      and_both (leb 1 (at h 0)) _ (le-leb _ _ (first_positive s some))
+      (and_both (ltb (at h (n - 1)) (at w 0)) _ (lt-ltb _ _ (last-below s some))
+      (and_both (ltb (falls (at h 0) (slice 1 n (seats 256 f))) 1) _ (lt-ltb _ _ (omega (arith, no_falls s some))) (le-leb _ _ s.small))))
 
 -- ---- where the bodies end
 

@@ -69,38 +69,24 @@ fn lens_of(halves: &Halves, count: usize) -> u64
         .sum()
 }
 
-// Tests stand one a line, each with its return, where names are bound or calls are made between them: `&&` over all of them would read no plainer.
+// The tests of the numbers and of the bodies, where there are messages.
+fn sound_in(words: &Words, halves: &Halves) -> bool
+    requires { (1 ≤ at words.now 0) × (at words.now 0 ≤ 4294967296) × (0 < at words.now 1) × (at words.now 1 ≤ 256) }
+    ensures { (b : List ℕ) → result ≡ sound_outbox_of (outbox_in words.now halves.now b) }
+{
+    let count = words[parts::UNACKED] as usize;
+    1 <= halves[0]
+        && u64::from(halves[count - 1]) < words[parts::NEXT]
+        && falls_in(halves, count) < 1
+        && lens_of(halves, count) <= 65536
+}
+
 pub fn sound(words: &Words, halves: &Halves) -> bool
     ensures { (b : List ℕ) → result ≡ sound_outbox_of (outbox_in words.now halves.now b) }
 {
     let next = words[parts::NEXT];
     let n = words[parts::UNACKED];
-    if 256 < n {
-        return false;
-    }
-    if next < 1 {
-        return false;
-    }
-    if 4294967296 < next {
-        return false;
-    }
-    if n == 0 {
-        return true;
-    }
-    let count = n as usize;
-    if halves[0] < 1 {
-        return false;
-    }
-    if next <= u64::from(halves[count - 1]) {
-        return false;
-    }
-    if 0 < falls_in(halves, count) {
-        return false;
-    }
-    if 65536 < lens_of(halves, count) {
-        return false;
-    }
-    true
+    n <= 256 && 1 <= next && next <= 4294967296 && (n == 0 || sound_in(words, halves))
 }
 
 // ---- where the bodies end

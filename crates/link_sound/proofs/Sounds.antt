@@ -1,7 +1,7 @@
 -- The check of a session in place, test by test. Assumes nothing.
 use Prim.Native.Nat.{ℕ, ◌+◌, ◌-◌, ◌≤◌, ◌<◌}
 use mathlib.Core.Path.{◌≡◌, sym, ap, ◌∙◌, subst}
-use mathlib.Core.Bool.{Bool, true, false, ◌&&◌, true≢false}
+use mathlib.Core.Bool.{Bool, true, false, ◌&&◌}
 use mathlib.Core.List.{List}
 use native.Mathlib.Omega.{arith}
 use lib.ListN.{length, get_or}
@@ -61,13 +61,6 @@ pub frame-room : (w h b : List ℕ) (i last sum : ℕ) → admits_queued (policy
 frame-room w h b i last sum e = (admits-fits (policy_in w) last sum (queued_at w h b i) e).room
 
 -- ---- all of it
-
--- where three tests do not all pass, the fourth is not made
-pub stopped : (x y z t : Bool) {r : Bool} → r ≡ ((x && y) && z) → r ≡ false → r ≡ (x && (y && (z && t)))
-stopped true true true t e f = absurd (true≢false (sym e ∙ f))
-stopped true true false t e f = f
-stopped true false z t e f = f
-stopped false y z t e f = f
 
 module _ (w h b : List ℕ) (s : Sized w b) (t : Float) where
   pub full : Full (opened_of (parts w h b t))

@@ -7,7 +7,8 @@ use Rattle.outbox.specs.Sound.{sound_outbox_of}
 use Rattle.queue.specs.Sound.{sound_queue}
 use Rattle.peer_session.specs.Sound.{sound_acks, sound_sizes}
 use Rattle.parts.specs.Parts.{at, outbox_in, queue_in, policy_in, waiting_in, retry_in}
-use Rattle.link_sound.proofs.Sounds.{checked, stopped}
+use Rattle.link_outbox.proofs.Sounds.{stopped}
+use Rattle.link_sound.proofs.Sounds.{checked}
 use Rattle.link_sound.proofs.sound.Goals.{then-sound, else-sound, then-sound_queue, else-sound_queue}
 use Rattle.link_sound.proofs.sound.Goals as goal
 
