@@ -8,8 +8,8 @@ use peer_session::SessionState;
 use receiving::Verdict;
 use rules::Refusal;
 
-// 26: the acks that wait and the frames in the queue are 512 together, and the number is in neither, nor answered by code 10. One test a line: a call
-// stands between them.
+// 26: the acks that wait and the frames in the queue are 512 together, and the number is in neither, nor answered by code 10. Tests stand
+// one a line, as document 01 lists them.
 fn acks_full(words: &Words, number: u64) -> bool
     requires { Countable words.now }
     ensures { Filled number words.now result }
