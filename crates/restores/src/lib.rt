@@ -86,7 +86,7 @@ fn taken(s: SessionState, outbound: &mut [u8], record: Record) -> SessionState
 
 // ---- the handoff
 
-// No derive: the two sides are of different types.
+// Field by field, one a line: the two sides are of different types, so there is no derive.
 fn same_handoff(h: TerminalHandoff, given: Given) -> bool
     requires { h.len ≤ length h.body }
     ensures { result ≡ same_handoff (held_in h) (lent_handoff given.entry) }
