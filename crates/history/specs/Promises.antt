@@ -136,7 +136,8 @@ module _ (c : Call) (l : Buffers) (x : Session) (z : Left) where
   abbrev pub Finds : Type 0
   Finds = AnsweredWithOutbound c s o z.answer × (z ≡ only_answers l x z.answer)
 
--- `restores::restore`: the record comes as a struct and three slices, the handoff as a struct and a slice
+-- `restores::restore`: the record comes with its three slices, the handoff with its body; here that one is as C gives it, a struct and a slice, as the
+-- second half of its `ensures` has it
 pub record Restores (r : Reliable) (h : Option Handoff) (l : Buffers) (x : Session) (z : Left) : Type 0 where
   pub given : Code.Reliable
   pub numbers : List ℕ

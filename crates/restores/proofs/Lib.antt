@@ -2,5 +2,6 @@
 pub mod Records
 pub mod Handoffs
 pub mod Restores
+pub mod Lent
 pub mod Lasting
 pub mod Refusals

@@ -1,6 +1,6 @@
 -- What a restore promises: one equation with the rule book, for every session, buffer, record and handoff. Assumes nothing.
 use Rattle.std.specs.Prelude as Prelude
-use Rattle.std.specs.Prelude.{ℕ, ◌≤◌, ◌≡◌, Bool, List, length, if◌then◌else◌, Some, None}
+use Rattle.std.specs.Prelude.{ℕ, ◌≤◌, ◌≡◌, Bool, true, false, List, [], length, if◌then◌else◌, Some, None}
 use Rattle.std.proofs.Math.Option.{Option, none, some}
 use Rattle.rules.specs.declared.Refusal.TheVariants.{ShortBuffer}
 use Rattle.rules.specs.Lists.{Bytes}
@@ -35,6 +35,15 @@ given_in h b = record { id = h.id; number = h.number; body = b; sent = h.sent; a
 
 abbrev pub handoff_given : Handoff → Bytes → Option R.Handoff
 handoff_given h b = if h.present then some (given_in h b) else none
+
+-- one whose body lies in a lent buffer, as C gives it, and its body beside it
+abbrev pub as_given : Prelude.Option Given → Handoff
+as_given None = record { present = false; id = 0; number = 0; sent = false; acknowledged = false }
+as_given (Some h) = record { present = true; id = h.id; number = h.number; sent = h.sent; acknowledged = h.acknowledged }
+
+abbrev pub body_given : Prelude.Option Given → Bytes
+body_given None = []
+body_given (Some h) = h.body.now
 
 -- ---- the promise
 

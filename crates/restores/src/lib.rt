@@ -5,7 +5,7 @@ ghost use Rattle.std.specs.Prelude.{◌≡◌, not, ◌&&◌, ◌≤◌, length,
 ghost use Rattle.rules.specs.Start.{handoff_size, same_handoff, agrees};
 ghost use Rattle.rules.specs.Buffers.{repacked};
 ghost use Rattle.peer_session.specs.View.{handoff_of, handoff_length};
-ghost use Rattle.restores.specs.Restored.{lent_handoff, given_if, handoff_given, RestoredBy};
+ghost use Rattle.restores.specs.Restored.{lent_handoff, given_if, handoff_given, as_given, body_given, RestoredBy, Restored};
 ghost use Rattle.restores.specs.Steps.{held_in, Handed, Taking, Takes, Ends};
 
 use peer_session::{SessionState, TerminalHandoff};
@@ -188,7 +188,8 @@ pub fn restore(
     record: Record,
     given: Option<Given>,
 ) -> Returned
-    ensures { RestoredBy «record».entry.reliable «record».entry.numbers.now «record».entry.lengths.now «record».entry.bodies.now (given_if given.entry) s outbound.old result outbound.new }
+    ensures { RestoredBy «record».entry.reliable «record».entry.numbers.now «record».entry.lengths.now «record».entry.bodies.now (given_if given.entry) s outbound.old result outbound.new
+        × Restored «record».entry.reliable «record».entry.numbers.now «record».entry.lengths.now «record».entry.bodies.now (as_given given.entry) (body_given given.entry) s outbound.old result outbound.new }
 {
     // Not by `session::enters`: the record's own tests stand between those of the entry.
     if outbound.len() < SessionState::OUTBOUND_BYTES {
