@@ -42,7 +42,7 @@ pub struct TooLong;
 
 // Standard input: the last chunk that was read, how much of it is filled, and the index where it goes on. Lines are gathered by text::gather_line, whose
 // contract says what they are; std's BufRead would take a line that is too long whole, onto the heap.
-#[derive(Drop)]
+#[derive(Clone, Copy)]
 pub struct Input {
     stdin: Stdin,
     chunk: [u8; 65536],
