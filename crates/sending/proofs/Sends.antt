@@ -1,6 +1,6 @@
 -- A send, test by test. Assumes nothing.
 use mathlib.Core.Path.{◌≡◌, refl}
-use mathlib.Core.Bool.{true, false}
+use mathlib.Core.Bool.{Bool, true, false}
 use mathlib.Core.List.{List, []}
 use Prim.Native.Nat.{ℕ, ◌+◌, ◌≤◌, ◌<◌}
 use lib.ListN.{length}
@@ -43,6 +43,17 @@ module _ (b : Bytes) (t : R.State) where
       → step (sends b) t ≡ outcome r (Number t.outbox.next) (asked r.clock)
   unfolding step send request
   sent r h e = rw (lt-leb 4294966000 t.clock.generation h, e)
+
+-- ---- the entry
+
+-- Below the generation's end, as the entry says of a call that raises it. By cases, so that the edit one_generation_too_many is refused by the generation
+-- that it lets in, and not since what it gives is no literal.
+low_by : (b : Bool) {n : ℕ} → (b ≡ true → n < 4294966000) → (b ≡ false → n < 4294966000) → n < 4294966000
+low_by true low other = low refl
+low_by false low other = other refl
+
+pub below : {n : ℕ} → (true ≡ true → n < 4294966000) → n < 4294966000
+below low = low_by true low (λ e. cc)
 
 -- ---- the call, by what `setup::join` promises
 
