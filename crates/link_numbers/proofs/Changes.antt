@@ -91,13 +91,17 @@ module _ {from count : ℕ} {w : List ℕ} (s : Set from count w) where
         → Becomes (kept p (in_use numbers)) from count w (set (put_mid from k w run) count j)
     run_keeps p {j} h = run_becomes s k few run same (subst (λ (ns : List ℕ). Leads (kept p ns) j run) as_used h)
 
-    pub run_releases : {upto n : ℕ} {l l' : List ℕ} {r : ReleasedRun} → ReleasesRun upto (take k (drop from w)) l n run r l'
-        → Releases upto from count w l n (set (put_mid from k w run) count r.count) l' r.events
-    run_releases {upto} {n} {l} {l'} {r} h =
+    -- whatever number is stored, if it is how many stay: so the edit released_and_kept is refused by the number
+    pub run_releases : {upto n stored : ℕ} {l l' : List ℕ} {r : ReleasedRun} → ReleasesRun upto (take k (drop from w)) l n run r l' → stored ≡ r.count
+        → Releases upto from count w l n (set (put_mid from k w run) count stored) l' r.events
+    run_releases {upto} {n} {stored} {l} {l'} {r} h e =
         let g : ReleasesRun upto (in_use numbers) l n run r l' = subst (λ (ns : List ℕ). ReleasesRun upto ns l n run r l') as_used h in
         let a = released_acks numbers run s.exact.few s.exact.full (same ∙ ap length as_used) g in
         let b = run_keeps (ltb upto) h.leads in
-        record { released = record { holds = b.holds; few = a.few; listed = a.listed }; only = b.only }
+        subst
+        (λ (x : ℕ). Releases upto from count w l n (set (put_mid from k w run) count x) l' r.events)
+        (sym e)
+        (record { released = record { holds = b.holds; few = a.few; listed = a.listed }; only = b.only })
 
   -- with one word more, for a number put at index i
   module _ (free : at w count < 512) (i n : ℕ) (within : i ≤ at w count) (run : List ℕ) where
